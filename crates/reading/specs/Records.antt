@@ -1,0 +1,144 @@
+-- What makes a record good, and which refusal comes first (document 01, "The survey record", "Refusals as returned").
+use Prim.Native.Nat.{ℕ, zero, suc, _+_, _-_}
+use mathlib.Core.Bool.{Bool, true, false, _&&_, _||_}
+use mathlib.Core.List.{List, [], _∷_}
+use lib.Dec.{leb, eqb}
+use lib.ListN.{length, getD}
+use Rattle.reading.specs.First.{pick, every}
+use Rattle.reading.specs.declared.records.Header.{Header}
+use Rattle.reading.specs.declared.records.Storey.{Storey}
+use Rattle.reading.specs.declared.records.Member.{Member}
+use Rattle.reading.specs.declared.records.Tag.{Tag}
+use Rattle.reading.specs.declared.records.Tag.the-variants.{B, S, M}
+
+-- what a field may hold: the numbers from one to another, or one of two
+pub data Allowed : Type 0 where
+  between : ℕ → ℕ → Allowed
+  either : ℕ → ℕ → Allowed
+
+abbrev pub allows : Allowed → ℕ → Bool
+allows (between a b) v = leb a v && leb v b
+allows (either a b) v = eqb v a || eqb v b
+
+-- nothing is allowed where a line has no field
+abbrev pub never : Allowed
+never = between 1 0
+
+-- N_D and N_K are held as numbers counted from -1,000,000: each force has one number, and the order is that of the forces
+abbrev pub zeroForce : ℕ
+zeroForce = 1_000_000
+
+-- "B": k, H_T, n_s, two tilts, number of S lines, which is at most n_s
+abbrev pub headerRanges : ℕ → List Allowed
+headerRanges ns =
+    either 90 100
+    ∷ between 1 99_999
+    ∷ between 1 99
+    ∷ between 0 9_999_999
+    ∷ between 0 9_999_999
+    ∷ between 1 ns
+    ∷ []
+
+-- "S": storey number, storey shear, number of M lines
+abbrev pub storeyRanges : List Allowed
+storeyRanges = between 1 9_999_999 ∷ between 1 9_999_999 ∷ between 1 200 ∷ []
+
+-- "M": fields 1 to 26
+abbrev pub memberRanges : List Allowed
+memberRanges =
+    between 1 9_999_999
+    ∷ between 1 99_999
+    ∷ between 1 99_999
+    ∷ between 1 9_999_999
+    ∷ between 1 9_999
+    ∷ between 1 9_999
+    ∷ between 1 99_999
+    ∷ between 1 99_999
+    ∷ between 1 99_999
+    ∷ between 1 9_999
+    ∷ between 1 99_999
+    ∷ between 0 99_999
+    ∷ between 0 1
+    ∷ between 0 1
+    ∷ between 0 1
+    ∷ between 0 100
+    ∷ between 0 4
+    ∷ between (zeroForce - 999_999) (zeroForce + 9_999_999)
+    ∷ between (zeroForce - 999_999) (zeroForce + 9_999_999)
+    ∷ between 0 9_999_999
+    ∷ between 1 9_999_999
+    ∷ between 0 9_999_999
+    ∷ between 1 9_999_999
+    ∷ between 0 9_999_999
+    ∷ between 0 9_999_999
+    ∷ between 0 9_999_999
+    ∷ []
+
+-- the ranges of a line's fields; a B line's last depends on its n_s
+abbrev pub ranges : Tag → ℕ → List Allowed
+ranges B ns = headerRanges ns
+ranges S ns = storeyRanges
+ranges M ns = memberRanges
+
+-- how many fields a line has
+abbrev pub fields : Tag → ℕ
+fields B = 6
+fields S = 3
+fields M = 26
+
+-- field j of a line, counted from 0, of which vs are the numbers: it is in its range
+abbrev pub inRange : Tag → List ℕ → ℕ → Bool
+inRange t vs j = allows (getD (ranges t (getD vs 2 0)) j never) (getD vs j 0)
+
+-- the numbers of a record, in the order of its line
+abbrev pub headerValues : Header → List ℕ
+headerValues h = h .knowledge ∷ h .height ∷ h .storeys ∷ h .tilt1 ∷ h .tilt2 ∷ h .count ∷ []
+
+abbrev pub storeyValues : Storey → List ℕ
+storeyValues s = s .number ∷ s .shear ∷ s .count ∷ []
+
+abbrev pub memberValues : Member → List ℕ
+memberValues m =
+    m .number
+    ∷ m .long
+    ∷ m .short
+    ∷ m .area
+    ∷ m .fcm
+    ∷ m .fctm
+    ∷ m .fyw
+    ∷ m .depth
+    ∷ m .height
+    ∷ m .spacing
+    ∷ m .core
+    ∷ m .hoops
+    ∷ m .hooks
+    ∷ m .zone
+    ∷ m .strengthened
+    ∷ m .factor
+    ∷ m .damage
+    ∷ m .nd
+    ∷ m .case .nk
+    ∷ m .case .me
+    ∷ m .case .mp
+    ∷ m .case .ve
+    ∷ m .case .vr
+    ∷ m .case .shear
+    ∷ m .case .rotation
+    ∷ m .case .drift
+    ∷ []
+
+-- the first refusal of a record by itself, 0 where there is none.
+-- A header: 3, a field outside its range; 7, H_T > 30,000 or n_s > 10
+unfoldable pub headerFault : Header → ℕ
+headerFault h =
+    pick (every (inRange B (headerValues h)) 6)
+    (pick (leb (h .height) 30_000 && leb (h .storeys) 10) 0 7)
+    3
+
+-- a storey: 3
+unfoldable pub storeyFault : Storey → ℕ
+storeyFault s = pick (every (inRange S (storeyValues s)) 3) 0 3
+
+-- a member: 3; 4, short side above long side
+unfoldable pub memberFault : Member → ℕ
+memberFault m = pick (every (inRange M (memberValues m)) 26) (pick (leb (m .short) (m .long)) 0 4) 3

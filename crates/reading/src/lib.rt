@@ -1,0 +1,3 @@
+// Reading a survey: the records, what makes one good, and the call that reads a file into lent rows.
+pub mod ranges;
+pub mod records;

@@ -1,0 +1,17 @@
+//! Test input made from a seed: the same seed gives the same input.
+
+pub mod damage;
+pub mod edges;
+pub mod rng;
+pub mod surveys;
+pub mod wild;
+pub mod writer;
+
+pub use damage::{any_file, damage, lent_rows};
+pub use edges::{edge_member, edge_member_for};
+pub use rng::Rng;
+pub use surveys::valid_survey;
+pub use wild::{wild_header, wild_member, wild_storey, wild_survey};
+pub use writer::{file_of, number_field, raw_field, survey_lines, write_survey, Line};
+
+pub use independent::{Header, Member, Storey, Survey};

@@ -1,0 +1,17 @@
+//! Risk verdict for low-rise reinforced concrete: a second program, made from
+//! documents 00 and 01 alone, for comparison.
+//!
+//! NOTES.md lists the points that the paper leaves open.
+
+mod fraction;
+pub mod members;
+pub mod reading;
+pub mod records;
+pub mod report;
+pub mod storeys;
+
+pub use members::{judge_member, MemberFinding};
+pub use reading::{read, Survey};
+pub use records::{Header, Member, Refusal, Storey};
+pub use report::{determine, report};
+pub use storeys::{judge_building, judge_storey, BuildingFinding, StoreyFinding};

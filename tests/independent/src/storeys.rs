@@ -1,0 +1,178 @@
+//! A storey and the building.
+
+use crate::fraction::Fraction;
+use crate::members::{find, is_wall, MemberFinding};
+use crate::records::{
+    by_storey, check_storey_call, check_survey, Header, Member, Refusal, Storey,
+};
+
+/// The largest P.
+const P_MOST: u128 = 9_999_999_999;
+
+/// The largest tilt that passes, microradians.
+const TILT_MOST: u64 = 25_000;
+
+#[derive(Clone, Copy, Debug, PartialEq, Eq)]
+pub struct StoreyFinding {
+    pub number: u64,
+    /// Σ, the total of n_D.
+    pub sum: u64,
+    /// The member count.
+    pub c: u64,
+    /// The total of V over members that are over.
+    pub p: u64,
+    /// The storey shear.
+    pub w: u64,
+    pub risky: bool,
+    /// The walls' V total at least 0.40 of the storey shear.
+    pub meets_wall_share: bool,
+}
+
+#[derive(Clone, Debug, PartialEq, Eq)]
+pub struct BuildingFinding {
+    /// The larger tilt exceeds 25,000.
+    pub tilt_above: bool,
+    pub risky: bool,
+    /// The places, from 1, of all Risky storeys: the verdict names any of
+    /// them, or 0 where there is none.
+    pub risky_places: Vec<u64>,
+}
+
+/// A storey, given k, its record and its members.
+pub fn judge_storey(k: u64, s: &Storey, members: &[Member]) -> Result<StoreyFinding, Refusal> {
+    check_storey_call(k, s, members)?;
+    let (finding, _) = find_storey(k, s, members)?;
+    Ok(finding)
+}
+
+/// A building, given its header, its storeys and the members of all storeys.
+pub fn judge_building(
+    h: &Header,
+    storeys: &[Storey],
+    members: &[Member],
+) -> Result<BuildingFinding, Refusal> {
+    check_survey(h, storeys, members)?;
+    let mut findings = Vec::new();
+    for (s, its_members) in by_storey(storeys, members) {
+        findings.push(find_storey(h.knowledge, s, its_members)?.0);
+    }
+    Ok(find_building(h, &findings))
+}
+
+/// The findings of a checked storey and of its members; 10 if P is too large.
+pub(crate) fn find_storey(
+    k: u64,
+    s: &Storey,
+    members: &[Member],
+) -> Result<(StoreyFinding, Vec<MemberFinding>), Refusal> {
+    let meets_wall_share = walls_carry_their_share(s, members);
+    let found: Vec<MemberFinding> =
+        members.iter().map(|m| find(k, meets_wall_share, m)).collect();
+
+    let c = members.len() as u64;
+    let sum: u64 = found.iter().map(|f| f.n_d).sum();
+    let p = shear_of_members_over(members, &found);
+    check_p(p)?;
+    let p = p as u64;
+    let some_member_over = found.iter().any(|f| f.over);
+
+    let risky = share_exceeded(p, s.shear, sum, c)
+        || (sum > 6_500 * c && some_member_over)
+        || damage_reached(members);
+
+    let finding = StoreyFinding {
+        number: s.number,
+        sum,
+        c,
+        p,
+        w: s.shear,
+        risky,
+        meets_wall_share,
+    };
+    Ok((finding, found))
+}
+
+/// The building from its storeys' findings.
+pub(crate) fn find_building(h: &Header, storeys: &[StoreyFinding]) -> BuildingFinding {
+    let tilt_above = h.tilt_1.max(h.tilt_2) > TILT_MOST;
+    let mut risky_places = Vec::new();
+    for (i, s) in storeys.iter().enumerate() {
+        if s.risky {
+            risky_places.push(i as u64 + 1);
+        }
+    }
+    BuildingFinding {
+        tilt_above,
+        risky: tilt_above || !risky_places.is_empty(),
+        risky_places,
+    }
+}
+
+/// The walls' V total >= 0.40 x storey shear.
+fn walls_carry_their_share(s: &Storey, members: &[Member]) -> bool {
+    let walls: u128 = members.iter().filter(|m| is_wall(m)).map(|m| m.v as u128).sum();
+    100 * walls >= 40 * s.shear as u128
+}
+
+fn shear_of_members_over(members: &[Member], found: &[MemberFinding]) -> u128 {
+    let mut p = 0;
+    for (m, f) in members.iter().zip(found) {
+        if f.over {
+            p += m.v as u128;
+        }
+    }
+    p
+}
+
+fn check_p(p: u128) -> Result<(), Refusal> {
+    if p > P_MOST {
+        return Err(Refusal::of_record(10));
+    }
+    Ok(())
+}
+
+/// The share of the storey shear that members over may carry.
+fn allowed_share(sum: u64, c: u64) -> Fraction {
+    let (sum, c) = (sum as i128, c as i128);
+    if sum <= 1_000 * c {
+        Fraction::new(35, 100)
+    } else if sum >= 6_500 * c {
+        Fraction::whole(0)
+    } else {
+        Fraction::new(7 * (6_500 * c - sum), 110_000 * c)
+    }
+}
+
+fn share_exceeded(p: u64, w: u64, sum: u64, c: u64) -> bool {
+    Fraction::new(p as i128, w as i128).exceeds(allowed_share(sum, c))
+}
+
+/// 20 h1 + 28 h2 + 35 h3 + 140 h4 >= 7 c.
+fn damage_reached(members: &[Member]) -> bool {
+    let with_kind = |kind| members.iter().filter(|m| m.damage_kind == kind).count();
+    let (h1, h2, h3, h4) = (with_kind(1), with_kind(2), with_kind(3), with_kind(4));
+    20 * h1 + 28 * h2 + 35 * h3 + 140 * h4 >= 7 * members.len()
+}
+
+#[cfg(test)]
+mod tests {
+    use super::*;
+
+    #[test]
+    fn the_allowed_share() {
+        let share = |sum, c| allowed_share(sum, c);
+        assert_eq!(share(0, 2), Fraction::new(7, 20));
+        assert_eq!(share(2_000, 2), Fraction::new(7, 20));
+        assert_eq!(share(2_001, 2), Fraction::new(7 * 10_999, 220_000));
+        assert_eq!(share(7_500, 2), Fraction::new(175, 1_000));
+        assert_eq!(share(12_999, 2), Fraction::new(7, 220_000));
+        assert_eq!(share(13_000, 2), Fraction::whole(0));
+        assert_eq!(share(13_001, 2), Fraction::whole(0));
+    }
+
+    #[test]
+    fn p_too_large() {
+        assert_eq!(check_p(9_999_999_999), Ok(()));
+        assert_eq!(check_p(10_000_000_000), Err(Refusal { number: 10, line: 0 }));
+    }
+}
