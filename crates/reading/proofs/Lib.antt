@@ -1,2 +1,4 @@
 pub mod Allowing
 pub mod Below
+pub mod Columns
+pub mod Validity

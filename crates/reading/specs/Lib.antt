@@ -1,2 +1,4 @@
 pub mod First
 pub mod Records
+pub mod Spelling
+pub mod Valid

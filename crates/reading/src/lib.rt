@@ -1,3 +1,4 @@
 // Reading a survey: the records, what makes one good, and the call that reads a file into lent rows.
 pub mod ranges;
 pub mod records;
+pub mod spelling;

@@ -4,13 +4,17 @@ use crate::rng::Rng;
 use crate::surveys::valid_survey;
 use crate::wild::wild_survey;
 use crate::writer::{number_field, raw_field, write_survey};
+use independent::read;
 use independent::records::member_field_range;
 
 /// Lines with their LF; the last may lack it.
 type Lines = Vec<Vec<u8>>;
 
 fn split(bytes: &[u8]) -> Lines {
-    bytes.split_inclusive(|&b| b == b'\n').map(|line| line.to_vec()).collect()
+    bytes
+        .split_inclusive(|&b| b == b'\n')
+        .map(|line| line.to_vec())
+        .collect()
 }
 
 /// One or more damages to a file. Now and then a damage changes nothing that
@@ -35,7 +39,19 @@ pub fn damage(rng: &mut Rng, bytes: &[u8]) -> Vec<u8> {
 /// Two to four damages to the fields of one line, and perhaps its tag or end,
 /// so that the order within the line matters.
 fn same_line(rng: &mut Rng, lines: &mut Lines) {
-    let i = near_line(rng, lines.len());
+    let mut i = near_line(rng, lines.len());
+    if rng.chance(25) {
+        // A member with its sides and its number both wrong.
+        let members = with_tag(lines, b'M');
+        if let Some(&last) = members.last() {
+            i = last;
+        }
+        short_above_long(rng, &mut lines[i]);
+        repeat_number(rng, lines, i);
+        if rng.chance(50) {
+            return;
+        }
+    }
     for _ in 0..rng.between(2, 4) {
         match rng.below(8) {
             0..=2 => bad_writing(rng, &mut lines[i]),
@@ -223,7 +239,9 @@ fn end_otherwise(rng: &mut Rng, line: &mut Vec<u8>) {
 }
 
 fn with_tag(lines: &Lines, tag: u8) -> Vec<usize> {
-    (0..lines.len()).filter(|&i| lines[i].first() == Some(&tag)).collect()
+    (0..lines.len())
+        .filter(|&i| lines[i].first() == Some(&tag))
+        .collect()
 }
 
 // ---- fields ----
@@ -286,7 +304,9 @@ fn bad_writing(rng: &mut Rng, line: &mut [u8]) {
         17 => "-1234567".to_string(),
         18 => "1.5".to_string(),
         19 => format!("\t{}", number),
-        20 => rng.pick(&["1e3", "0x1", "5-", "5-5", "x", "1,0", "\0", "9:", "/9"]).to_string(),
+        20 => rng
+            .pick(&["1e3", "0x1", "5-", "5-5", "x", "1,0", "\0", "9:", "/9"])
+            .to_string(),
         _ => format!("{:<8}", number),
     };
     put(line, field, &raw_field(text.as_bytes()));
@@ -323,7 +343,11 @@ fn out_of_range(rng: &mut Rng, line: &mut [u8]) {
 fn count_lies(rng: &mut Rng, lines: &mut Lines) {
     let storeys = with_tag(lines, b'S');
     let of_header = storeys.is_empty() || rng.chance(35);
-    let i = if of_header { 0 } else { storeys[rng.index(storeys.len())] };
+    let i = if of_header {
+        0
+    } else {
+        storeys[rng.index(storeys.len())]
+    };
     let field = if of_header { 6 } else { 3 };
     let count = field_value(&lines[i], field).unwrap_or(1);
     let value = match rng.below(6) {
@@ -394,7 +418,13 @@ fn any_bytes(rng: &mut Rng) -> Vec<u8> {
     };
     let near = rng.chance(60);
     (0..length)
-        .map(|_| if near { rng.pick(b"BSM    0123456789-\n\n") } else { rng.next() as u8 })
+        .map(|_| {
+            if near {
+                rng.pick(b"BSM    0123456789-\n\n")
+            } else {
+                rng.next() as u8
+            }
+        })
         .collect()
 }
 
@@ -439,17 +469,42 @@ fn filled_to(rng: &mut Rng, length: usize) -> Vec<u8> {
     bytes
 }
 
-/// Lengths of rows to lend for a file: enough, just enough, or too few.
+/// Lengths of rows to lend for a file: enough, just enough, too few, or such
+/// that the first line refused would not fit either.
 pub fn lent_rows(rng: &mut Rng, bytes: &[u8]) -> (usize, usize) {
     let lines = split(bytes);
     let storeys = with_tag(&lines, b'S').len();
     let members = with_tag(&lines, b'M').len();
-    match rng.below(8) {
+    match rng.below(10) {
         0 | 1 => (10, 320),
         2 | 3 => (storeys, members),
         4 => (storeys, rng.index(members + 1)),
         5 => (storeys, members.saturating_sub(1)),
         6 => (storeys.saturating_sub(1), members),
-        _ => (rng.index(storeys + 1), rng.index(members + 1)),
+        7 => (rng.index(storeys + 1), rng.index(members + 1)),
+        _ => up_to_refusal(bytes, &lines),
     }
+}
+
+fn up_to_refusal(bytes: &[u8], lines: &Lines) -> (usize, usize) {
+    let line = match read(bytes, usize::MAX, usize::MAX) {
+        Ok(_) => return (10, 320),
+        Err(refusal) => refusal.line as usize,
+    };
+    let before = |tag| {
+        with_tag(lines, tag)
+            .into_iter()
+            .filter(|&i| i + 1 < line)
+            .count()
+    };
+    let member_refused = lines.get(line - 1).and_then(|l| l.first()) == Some(&b'M');
+    let storeys = before(b'S');
+    (
+        if member_refused {
+            storeys.max(1)
+        } else {
+            storeys
+        },
+        before(b'M'),
+    )
 }

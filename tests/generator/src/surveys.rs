@@ -8,11 +8,12 @@ use independent::{judge_member, judge_storey, Header, Member, Storey, Survey};
 /// An accepted survey whose file fits 65,536 bytes.
 pub fn valid_survey(rng: &mut Rng) -> Survey {
     let k = rng.pick(&[90, 100]);
+    let calm = rng.chance(45);
     let sizes = sizes(rng);
     let numbers = distinct_numbers(rng, sizes.len());
     let mut survey = Survey::default();
     for (&count, &number) in sizes.iter().zip(&numbers) {
-        let (storey, members) = storey(rng, k, number, count);
+        let (storey, members) = storey(rng, k, number, count, calm);
         survey.storeys.push(storey);
         survey.members.extend(members);
     }
@@ -23,7 +24,9 @@ pub fn valid_survey(rng: &mut Rng) -> Survey {
 /// How many members each storey has.
 fn sizes(rng: &mut Rng) -> Vec<usize> {
     let several = |rng: &mut Rng, storeys: usize, most: i128| -> Vec<usize> {
-        (0..storeys).map(|_| rng.between(1, most) as usize).collect()
+        (0..storeys)
+            .map(|_| rng.between(1, most) as usize)
+            .collect()
     };
     match rng.below(100) {
         0 | 1 => largest(rng),
@@ -98,8 +101,8 @@ fn tilt(rng: &mut Rng) -> u64 {
     }
 }
 
-fn storey(rng: &mut Rng, k: u64, number: u64, count: usize) -> (Storey, Vec<Member>) {
-    let mut members = members(rng, k, count);
+fn storey(rng: &mut Rng, k: u64, number: u64, count: usize, calm: bool) -> (Storey, Vec<Member>) {
+    let mut members = members(rng, k, count, calm);
     let mut storey = Storey {
         number,
         shear: shear(rng),
@@ -112,16 +115,16 @@ fn storey(rng: &mut Rng, k: u64, number: u64, count: usize) -> (Storey, Vec<Memb
     (storey, members)
 }
 
-fn members(rng: &mut Rng, k: u64, count: usize) -> Vec<Member> {
+/// In a calm building most members carry next to nothing.
+fn members(rng: &mut Rng, k: u64, count: usize, calm: bool) -> Vec<Member> {
     let numbers = distinct_numbers(rng, count);
-    let calm = rng.chance(30);
     let mut members: Vec<Member> = Vec::new();
     for &number in &numbers {
         let mut m = match members.last() {
             Some(before) if rng.chance(20) => twin(rng, before),
             _ => edge_member_for(rng, k),
         };
-        if calm && rng.chance(85) {
+        if calm && rng.chance(80) {
             m.m_e = 0;
             m.rotation = 0;
         }
@@ -233,7 +236,11 @@ fn wall_share_edge(rng: &mut Rng, storey: &mut Storey, members: &mut [Member]) {
     let Some(wall) = members.iter().position(is_wall) else {
         return;
     };
-    let total: i128 = members.iter().filter(|m| is_wall(m)).map(|m| m.v as i128).sum();
+    let total: i128 = members
+        .iter()
+        .filter(|m| is_wall(m))
+        .map(|m| m.v as i128)
+        .sum();
     match rng.below(6) {
         0 | 1 | 2 => {
             // The first wall makes up the total.
@@ -261,9 +268,7 @@ fn share_edge(rng: &mut Rng, k: u64, storey: &Storey, members: &mut [Member]) {
     let Ok(found) = judge_storey(k, storey, members) else {
         return;
     };
-    let is_over = |m: &Member| {
-        judge_member(k, found.meets_wall_share, m).map_or(false, |f| f.over)
-    };
+    let is_over = |m: &Member| judge_member(k, found.meets_wall_share, m).map_or(false, |f| f.over);
     let over_columns: Vec<usize> = (0..members.len())
         .filter(|&i| !is_wall(&members[i]) && is_over(&members[i]))
         .collect();

@@ -12,7 +12,13 @@ fn wild_value(rng: &mut Rng, least: i128, most: i128) -> i128 {
         0 | 1 => (least - 1).max(0),
         2..=4 => most + 1,
         5 => u64::MAX as i128,
-        6 => rng.pick(&[u64::MAX - 1, 1 << 63, i64::MAX as u64, u32::MAX as u64, 1 << 32]) as i128,
+        6 => rng.pick(&[
+            u64::MAX - 1,
+            1 << 63,
+            i64::MAX as u64,
+            u32::MAX as u64,
+            1 << 32,
+        ]) as i128,
         7 => rng.next() as i128,
         8 => most + rng.between(1, 1_000),
         // The low 32 bits would be in range.
@@ -157,7 +163,11 @@ fn spoil(rng: &mut Rng, survey: &mut Survey) {
         }
         5 | 6 => {
             // Mostly neighbours, so of one storey.
-            let other = if rng.chance(80) { j.saturating_sub(1) } else { rng.index(members) };
+            let other = if rng.chance(80) {
+                j.saturating_sub(1)
+            } else {
+                rng.index(members)
+            };
             survey.members[j].number = survey.members[other].number;
         }
         7 => survey.header.storey_count = lie(rng, survey.header.storey_count),
@@ -165,7 +175,7 @@ fn spoil(rng: &mut Rng, survey: &mut Survey) {
         9 => {
             // The total stays right.
             let other = rng.index(storeys);
-            let moved = rng.below(survey.storeys[i].member_count + 1);
+            let moved = rng.below(survey.storeys[i].member_count.saturating_add(1));
             survey.storeys[i].member_count -= moved;
             survey.storeys[other].member_count =
                 survey.storeys[other].member_count.saturating_add(moved);
@@ -185,7 +195,11 @@ fn spoil(rng: &mut Rng, survey: &mut Survey) {
             if rng.chance(50) {
                 survey.storeys.remove(i);
             } else {
-                survey.storeys.push(Storey { number: 5_555_555, shear: 1, member_count: 0 });
+                survey.storeys.push(Storey {
+                    number: 5_555_555,
+                    shear: 1,
+                    member_count: 0,
+                });
                 survey.header.storey_count = survey.header.storey_count.saturating_add(1);
             }
         }
@@ -193,7 +207,11 @@ fn spoil(rng: &mut Rng, survey: &mut Survey) {
             // One storey of 201 members.
             let m = survey.members[j];
             survey.members = (1..=201).map(|number| Member { number, ..m }).collect();
-            survey.storeys = vec![Storey { number: 1, shear: 1_000, member_count: 201 }];
+            survey.storeys = vec![Storey {
+                number: 1,
+                shear: 1_000,
+                member_count: 201,
+            }];
             survey.header.storey_count = 1;
         }
     }

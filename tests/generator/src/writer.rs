@@ -78,5 +78,9 @@ pub fn file_of(lines: &[Line]) -> Vec<u8> {
 }
 
 pub fn write_survey(survey: &Survey) -> Vec<u8> {
-    file_of(&survey_lines(&survey.header, &survey.storeys, &survey.members))
+    file_of(&survey_lines(
+        &survey.header,
+        &survey.storeys,
+        &survey.members,
+    ))
 }

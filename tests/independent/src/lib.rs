@@ -1,5 +1,5 @@
-//! Risk verdict for low-rise reinforced concrete: a second program, made from
-//! documents 00 and 01 alone, for comparison.
+//! Risk verdict for low-rise reinforced concrete: a second program after
+//! document 01, for comparison.
 //!
 //! NOTES.md lists the points that the paper leaves open.
 

@@ -117,7 +117,9 @@ fn up(numerator: i128, denominator: i128) -> i128 {
 }
 
 fn down(numerator: i128, denominator: i128) -> i128 {
-    Fraction::new(numerator, denominator).rounded_down().min(CAP)
+    Fraction::new(numerator, denominator)
+        .rounded_down()
+        .min(CAP)
 }
 
 /// n from N_K, n_D from N_D; ten-thousandths.
@@ -282,7 +284,13 @@ fn finished_limits(class: u8, strengthened: bool, factor: u64, table: Pair) -> (
 /// The limit of m and the limit of rotation.
 fn limits(class: u8, m: &Member) -> (i128, i128) {
     let n = axial_ratio(m.n_k, m);
-    let table = table_limits(class, n, hoop_ratio(m), wall_stress(m), m.boundary_zone == 1);
+    let table = table_limits(
+        class,
+        n,
+        hoop_ratio(m),
+        wall_stress(m),
+        m.boundary_zone == 1,
+    );
     finished_limits(class, m.strengthened == 1, m.factor, table)
 }
 
@@ -320,7 +328,11 @@ mod tests {
         ] {
             assert_eq!(rounded(COLUMN_B, n, rho, 0, false), (m, rotation));
         }
-        for (n, m, rotation) in [(0, 10_000, 5_000), (7_000, 10_000, 5_000), (10_000, 10_000, 0)] {
+        for (n, m, rotation) in [
+            (0, 10_000, 5_000),
+            (7_000, 10_000, 5_000),
+            (10_000, 10_000, 0),
+        ] {
             assert_eq!(rounded(COLUMN_C, n, 0, 0, false), (m, rotation));
         }
         for (zone, n, v, m, rotation) in [

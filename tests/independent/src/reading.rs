@@ -20,7 +20,10 @@ pub struct Survey {
 
 /// Reads a survey into rows for so many storeys and members.
 pub fn read(bytes: &[u8], storey_rows: usize, member_rows: usize) -> Result<Survey, Refusal> {
-    let mut file = Lines { rest: bytes, line: 0 };
+    let mut file = Lines {
+        rest: bytes,
+        line: 0,
+    };
     let mut survey = Survey::default();
 
     survey.header = read_header(&mut file)?;
@@ -192,11 +195,33 @@ mod tests {
     #[test]
     fn fields_badly_written() {
         for bad in [
-            b"        ", b"00000000", b"12345678", b"      00", b"      05", b"      +5",
-            b"     5  ", b"      5 ", b"5       ", b"     1 2", b"     1.0", b"     1e3",
-            b"       -", b"      -0", b"     -05", b"     - 5", b"     --5", b"     5-5",
-            b"\t      5", b"      \t5", b"\0      5", b"      5\r", b"       a", b"-1234567",
-            b" 000000 ", b"     0x1", b"     1,0",
+            b"        ",
+            b"00000000",
+            b"12345678",
+            b"      00",
+            b"      05",
+            b"      +5",
+            b"     5  ",
+            b"      5 ",
+            b"5       ",
+            b"     1 2",
+            b"     1.0",
+            b"     1e3",
+            b"       -",
+            b"      -0",
+            b"     -05",
+            b"     - 5",
+            b"     --5",
+            b"     5-5",
+            b"\t      5",
+            b"      \t5",
+            b"\0      5",
+            b"      5\r",
+            b"       a",
+            b"-1234567",
+            b" 000000 ",
+            b"     0x1",
+            b"     1,0",
         ] {
             assert_eq!(written_number(bad, false), None, "{:?}", bad);
             assert_eq!(written_number(bad, true), None, "{:?}", bad);

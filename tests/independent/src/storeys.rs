@@ -2,9 +2,7 @@
 
 use crate::fraction::Fraction;
 use crate::members::{find, is_wall, MemberFinding};
-use crate::records::{
-    by_storey, check_storey_call, check_survey, Header, Member, Refusal, Storey,
-};
+use crate::records::{by_storey, check_storey_call, check_survey, Header, Member, Refusal, Storey};
 
 /// The largest P.
 const P_MOST: u128 = 9_999_999_999;
@@ -66,8 +64,10 @@ pub(crate) fn find_storey(
     members: &[Member],
 ) -> Result<(StoreyFinding, Vec<MemberFinding>), Refusal> {
     let meets_wall_share = walls_carry_their_share(s, members);
-    let found: Vec<MemberFinding> =
-        members.iter().map(|m| find(k, meets_wall_share, m)).collect();
+    let found: Vec<MemberFinding> = members
+        .iter()
+        .map(|m| find(k, meets_wall_share, m))
+        .collect();
 
     let c = members.len() as u64;
     let sum: u64 = found.iter().map(|f| f.n_d).sum();
@@ -110,7 +110,11 @@ pub(crate) fn find_building(h: &Header, storeys: &[StoreyFinding]) -> BuildingFi
 
 /// The walls' V total >= 0.40 x storey shear.
 fn walls_carry_their_share(s: &Storey, members: &[Member]) -> bool {
-    let walls: u128 = members.iter().filter(|m| is_wall(m)).map(|m| m.v as u128).sum();
+    let walls: u128 = members
+        .iter()
+        .filter(|m| is_wall(m))
+        .map(|m| m.v as u128)
+        .sum();
     100 * walls >= 40 * s.shear as u128
 }
 
@@ -173,6 +177,12 @@ mod tests {
     #[test]
     fn p_too_large() {
         assert_eq!(check_p(9_999_999_999), Ok(()));
-        assert_eq!(check_p(10_000_000_000), Err(Refusal { number: 10, line: 0 }));
+        assert_eq!(
+            check_p(10_000_000_000),
+            Err(Refusal {
+                number: 10,
+                line: 0
+            })
+        );
     }
 }

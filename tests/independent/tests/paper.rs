@@ -52,42 +52,131 @@ fn edge_a() {
 
 #[test]
 fn edge_b() {
-    let m = Member { s: 1_000, b_k: 1_000, a_sh: 3_250, ..member() };
+    let m = Member {
+        s: 1_000,
+        b_k: 1_000,
+        a_sh: 3_250,
+        ..member()
+    };
     assert_eq!(limits(100, &m), (2, 31_875, 15_625));
 }
 
 #[test]
 fn edge_c() {
-    let m = Member { s: 1_000, b_k: 1_000, a_sh: 3_250, strengthened: 1, ..member() };
+    let m = Member {
+        s: 1_000,
+        b_k: 1_000,
+        a_sh: 3_250,
+        strengthened: 1,
+        ..member()
+    };
     assert_eq!(limits(100, &m), (2, 23_906, 11_718));
 }
 
 #[test]
 fn edge_d() {
-    let m = Member { v_e: 111, n_k: 7_650, ..member() };
+    let m = Member {
+        v_e: 111,
+        n_k: 7_650,
+        ..member()
+    };
     assert_eq!(limits(100, &m), (3, 10_000, 2_500));
-    let m = Member { strengthened: 1, ..m };
+    let m = Member {
+        strengthened: 1,
+        ..m
+    };
     assert_eq!(limits(100, &m), (3, 10_000, 2_500));
 }
 
 #[test]
 fn edge_e() {
-    let m = Member { n_k: 1_750, v_e: 11_000, v_r: 20_000, ..wall() };
+    let m = Member {
+        n_k: 1_750,
+        v_e: 11_000,
+        v_r: 20_000,
+        ..wall()
+    };
     assert_eq!(limits(100, &m), (4, 43_750, 18_750));
-    let m = Member { strengthened: 1, ..m };
+    let m = Member {
+        strengthened: 1,
+        ..m
+    };
     assert_eq!(limits(100, &m), (4, 43_750, 18_750));
 }
 
 #[test]
 fn edge_f() {
-    assert_eq!(class(90, &Member { v_e: 63, ..detailed() }), 1);
-    assert_eq!(class(90, &Member { v_e: 64, ..detailed() }), 2);
+    assert_eq!(
+        class(
+            90,
+            &Member {
+                v_e: 63,
+                ..detailed()
+            }
+        ),
+        1
+    );
+    assert_eq!(
+        class(
+            90,
+            &Member {
+                v_e: 64,
+                ..detailed()
+            }
+        ),
+        2
+    );
     // Not detailed: B to 99, then C.
-    assert_eq!(class(90, &Member { v_e: 63, ..member() }), 2);
-    assert_eq!(class(90, &Member { v_e: 64, ..member() }), 2);
-    assert_eq!(class(90, &Member { v_e: 99, ..member() }), 2);
-    assert_eq!(class(90, &Member { v_e: 100, ..member() }), 3);
-    assert_eq!(class(90, &Member { v_e: 100, ..detailed() }), 2);
+    assert_eq!(
+        class(
+            90,
+            &Member {
+                v_e: 63,
+                ..member()
+            }
+        ),
+        2
+    );
+    assert_eq!(
+        class(
+            90,
+            &Member {
+                v_e: 64,
+                ..member()
+            }
+        ),
+        2
+    );
+    assert_eq!(
+        class(
+            90,
+            &Member {
+                v_e: 99,
+                ..member()
+            }
+        ),
+        2
+    );
+    assert_eq!(
+        class(
+            90,
+            &Member {
+                v_e: 100,
+                ..member()
+            }
+        ),
+        3
+    );
+    assert_eq!(
+        class(
+            90,
+            &Member {
+                v_e: 100,
+                ..detailed()
+            }
+        ),
+        2
+    );
 }
 
 #[test]
@@ -105,9 +194,21 @@ fn edge_g() {
 #[test]
 fn edge_h() {
     // n_D equals N_D here.
-    let one = Member { a_c: 100_000, v: 0, ..member() };
+    let one = Member {
+        a_c: 100_000,
+        v: 0,
+        ..member()
+    };
     let with_n_d = |n_d| {
-        let members = [Member { n_d, ..one }, Member { number: 2, n_d: 6_500, m_e: 0, ..one }];
+        let members = [
+            Member { n_d, ..one },
+            Member {
+                number: 2,
+                n_d: 6_500,
+                m_e: 0,
+                ..one
+            },
+        ];
         let f = judge_storey(100, &storey(), &members).unwrap();
         assert_eq!((f.sum as i64, f.p), (6_500 + n_d, 0));
         f.risky
@@ -121,7 +222,10 @@ fn edge_i() {
     let with_count = |count| {
         let mut members = copies(&Member { m_e: 0, ..member() }, count);
         members[3].damage_kind = 4;
-        let s = Storey { member_count: count, ..storey() };
+        let s = Storey {
+            member_count: count,
+            ..storey()
+        };
         judge_storey(100, &s, &members).unwrap().risky
     };
     assert!(with_count(20));
@@ -132,7 +236,11 @@ fn edge_i() {
 fn edge_j() {
     let members = copies(&Member { m_e: 0, ..member() }, 2);
     let with_tilts = |tilt_1, tilt_2| {
-        let h = Header { tilt_1, tilt_2, ..header() };
+        let h = Header {
+            tilt_1,
+            tilt_2,
+            ..header()
+        };
         let f = judge_building(&h, &[storey()], &members).unwrap();
         assert_eq!(f.tilt_above, f.risky);
         assert!(f.risky_places.is_empty());
@@ -150,7 +258,10 @@ fn damage_kinds() {
         for (m, kind) in members.iter_mut().zip(kinds) {
             m.damage_kind = *kind;
         }
-        let s = Storey { member_count: count, ..storey() };
+        let s = Storey {
+            member_count: count,
+            ..storey()
+        };
         judge_storey(100, &s, &members).unwrap().risky
     };
     assert!(risky(5, &[3]));
@@ -169,85 +280,302 @@ fn damage_kinds() {
 #[test]
 fn detailed_edges() {
     // 100 x 100 x 600 = 6 x 100 x 100 x 100.
-    let m = Member { s: 100, hooks: 1, a_sh: 100, f_yw: 600, f_cm: 100, b_k: 100, ..member() };
+    let m = Member {
+        s: 100,
+        hooks: 1,
+        a_sh: 100,
+        f_yw: 600,
+        f_cm: 100,
+        b_k: 100,
+        ..member()
+    };
     assert_eq!(class(100, &m), 1);
     assert_eq!(class(100, &Member { f_yw: 599, ..m }), 2);
     assert_eq!(class(100, &Member { f_cm: 101, ..m }), 2);
     assert_eq!(class(100, &Member { hooks: 0, ..m }), 2);
-    assert_eq!(class(100, &Member { s: 101, f_yw: 2_000, ..m }), 2);
+    assert_eq!(
+        class(
+            100,
+            &Member {
+                s: 101,
+                f_yw: 2_000,
+                ..m
+            }
+        ),
+        2
+    );
     // Weaker concrete eases the hoop condition.
-    assert_eq!(class(100, &Member { f_yw: 599, f_cm: 99, ..m }), 1);
+    assert_eq!(
+        class(
+            100,
+            &Member {
+                f_yw: 599,
+                f_cm: 99,
+                ..m
+            }
+        ),
+        1
+    );
 }
 
 #[test]
 fn wall_edges() {
     assert_eq!(class(100, &wall()), 4);
-    assert_eq!(class(100, &Member { v_r: 9_000, ..wall() }), 5);
-    assert_eq!(class(90, &Member { v_r: 10_000, ..wall() }), 5);
-    assert_eq!(class(90, &Member { v_r: 10_001, ..wall() }), 4);
-    assert_eq!(class(100, &Member { h_w: 1_999, ..wall() }), 5);
+    assert_eq!(
+        class(
+            100,
+            &Member {
+                v_r: 9_000,
+                ..wall()
+            }
+        ),
+        5
+    );
+    assert_eq!(
+        class(
+            90,
+            &Member {
+                v_r: 10_000,
+                ..wall()
+            }
+        ),
+        5
+    );
+    assert_eq!(
+        class(
+            90,
+            &Member {
+                v_r: 10_001,
+                ..wall()
+            }
+        ),
+        4
+    );
+    assert_eq!(
+        class(
+            100,
+            &Member {
+                h_w: 1_999,
+                ..wall()
+            }
+        ),
+        5
+    );
     // 999 is below 5 x 200: a column.
-    assert_eq!(class(100, &Member { long_side: 999, ..wall() }), 2);
+    assert_eq!(
+        class(
+            100,
+            &Member {
+                long_side: 999,
+                ..wall()
+            }
+        ),
+        2
+    );
     // Without a boundary zone wall B is milder than wall A.
-    let plain = Member { boundary_zone: 0, ..wall() };
+    let plain = Member {
+        boundary_zone: 0,
+        ..wall()
+    };
     assert_eq!(limits(100, &plain), (4, 45_000, 15_000));
-    assert_eq!(limits(100, &Member { v_r: 9_000, ..plain }), (5, 50_000, 20_000));
+    assert_eq!(
+        limits(
+            100,
+            &Member {
+                v_r: 9_000,
+                ..plain
+            }
+        ),
+        (5, 50_000, 20_000)
+    );
 }
 
 #[test]
 fn ratios_round_to_the_unfavourable_side() {
     let of = |m: &Member| judge_member(100, false, m).unwrap();
     // 10,000,000 x 1 / 9,000,000 and one third more.
-    assert_eq!(of(&Member { n_k: 1, n_d: 3, ..member() }).n, 2);
-    assert_eq!(of(&Member { n_k: 1, n_d: 3, ..member() }).n_d, 4);
-    assert_eq!(of(&Member { n_k: 0, n_d: -1, ..member() }).n, 0);
-    assert_eq!(of(&Member { n_k: -999_999, n_d: -999_999, ..member() }).n_d, 0);
-    assert_eq!(of(&Member { m_e: 1, m_p: 30_000, ..member() }).m, 1);
-    assert_eq!(of(&Member { m_e: 0, m_p: 30_000, ..member() }).m, 0);
+    assert_eq!(
+        of(&Member {
+            n_k: 1,
+            n_d: 3,
+            ..member()
+        })
+        .n,
+        2
+    );
+    assert_eq!(
+        of(&Member {
+            n_k: 1,
+            n_d: 3,
+            ..member()
+        })
+        .n_d,
+        4
+    );
+    assert_eq!(
+        of(&Member {
+            n_k: 0,
+            n_d: -1,
+            ..member()
+        })
+        .n,
+        0
+    );
+    assert_eq!(
+        of(&Member {
+            n_k: -999_999,
+            n_d: -999_999,
+            ..member()
+        })
+        .n_d,
+        0
+    );
+    assert_eq!(
+        of(&Member {
+            m_e: 1,
+            m_p: 30_000,
+            ..member()
+        })
+        .m,
+        1
+    );
+    assert_eq!(
+        of(&Member {
+            m_e: 0,
+            m_p: 30_000,
+            ..member()
+        })
+        .m,
+        0
+    );
     // Caps.
-    assert_eq!(of(&Member { m_e: 999_999, m_p: 10_000, ..member() }).m, 999_999);
-    assert_eq!(of(&Member { m_e: 1_000_000, m_p: 10_000, ..member() }).m, 999_999);
-    let small = Member { f_cm: 1, a_c: 1, n_d: 9_999_999, n_k: 9_999_999, ..member() };
+    assert_eq!(
+        of(&Member {
+            m_e: 999_999,
+            m_p: 10_000,
+            ..member()
+        })
+        .m,
+        999_999
+    );
+    assert_eq!(
+        of(&Member {
+            m_e: 1_000_000,
+            m_p: 10_000,
+            ..member()
+        })
+        .m,
+        999_999
+    );
+    let small = Member {
+        f_cm: 1,
+        a_c: 1,
+        n_d: 9_999_999,
+        n_k: 9_999_999,
+        ..member()
+    };
     assert_eq!((of(&small).n, of(&small).n_d), (999_999, 999_999));
     // ρ goes down: 500.9 is 500, and 501 lies one step up the table.
-    let at_500 = Member { s: 1_000, b_k: 10_000, a_sh: 5_009, n_k: 0, ..member() };
+    let at_500 = Member {
+        s: 1_000,
+        b_k: 10_000,
+        a_sh: 5_009,
+        n_k: 0,
+        ..member()
+    };
     assert_eq!(of(&at_500).m_limit, 25_000);
-    assert_eq!(of(&Member { a_sh: 5_010, ..at_500 }).m_limit, 25_006);
+    assert_eq!(
+        of(&Member {
+            a_sh: 5_010,
+            ..at_500
+        })
+        .m_limit,
+        25_006
+    );
     // v goes up: 9,000.5 is 9,001.
-    let wall_b = Member { d: 10_000, h_w: 1, v_e: 18_001, v_r: 99_999, ..wall() };
+    let wall_b = Member {
+        d: 10_000,
+        h_w: 1,
+        v_e: 18_001,
+        v_r: 99_999,
+        ..wall()
+    };
     assert_eq!(of(&wall_b).m_limit, 49_993);
-    assert_eq!(of(&Member { v_e: 18_000, ..wall_b }).m_limit, 50_000);
+    assert_eq!(
+        of(&Member {
+            v_e: 18_000,
+            ..wall_b
+        })
+        .m_limit,
+        50_000
+    );
 }
 
 #[test]
 fn limits_hold_at_equality() {
     let over = |m: &Member| judge_member(100, false, m).unwrap().over;
     // m = M_e; limits 25,909 and 12,500.
-    let m = Member { m_p: 10_000, m_e: 25_909, rotation: 12_500, ..member() };
+    let m = Member {
+        m_p: 10_000,
+        m_e: 25_909,
+        rotation: 12_500,
+        ..member()
+    };
     assert!(!over(&m));
     assert!(over(&Member { m_e: 25_910, ..m }));
-    assert!(over(&Member { rotation: 12_501, ..m }));
-    let m = Member { factor: 0, rotation: 0, ..m };
+    assert!(over(&Member {
+        rotation: 12_501,
+        ..m
+    }));
+    let m = Member {
+        factor: 0,
+        rotation: 0,
+        ..m
+    };
     assert!(!over(&m));
     assert!(over(&Member { rotation: 1, ..m }));
 }
 
 #[test]
 fn m_test_dropped() {
-    let w = Member { m_p: 1, m_e: 9_999_999, drift: 7_499, ..wall() };
+    let w = Member {
+        m_p: 1,
+        m_e: 9_999_999,
+        drift: 7_499,
+        ..wall()
+    };
     let over = |share, m: &Member| judge_member(100, share, m).unwrap().over;
     assert!(!over(true, &w));
     assert!(over(false, &w));
     assert!(over(true, &Member { drift: 7_500, ..w }));
     assert!(over(true, &Member { v_r: 9_000, ..w }));
-    assert!(over(true, &Member { rotation: 30_001, ..w }));
+    assert!(over(
+        true,
+        &Member {
+            rotation: 30_001,
+            ..w
+        }
+    ));
     // Also a wall of class B, by its height.
     assert!(!over(true, &Member { h_w: 1, ..w }));
     // Not a column.
-    assert!(over(true, &Member { long_side: 999, ..w }));
+    assert!(over(
+        true,
+        &Member {
+            long_side: 999,
+            ..w
+        }
+    ));
 
     let of_storey = |v| {
-        let members = [Member { v, ..w }, Member { number: 2, m_e: 0, ..member() }];
+        let members = [
+            Member { v, ..w },
+            Member {
+                number: 2,
+                m_e: 0,
+                ..member()
+            },
+        ];
         let f = judge_storey(100, &storey(), &members).unwrap();
         (f.meets_wall_share, f.p)
     };
@@ -257,8 +585,13 @@ fn m_test_dropped() {
 
 #[test]
 fn every_risky_place() {
-    let h = Header { storey_count: 3, ..header() };
-    let storeys: Vec<Storey> = (1..=3).map(|number| Storey { number, ..storey() }).collect();
+    let h = Header {
+        storey_count: 3,
+        ..header()
+    };
+    let storeys: Vec<Storey> = (1..=3)
+        .map(|number| Storey { number, ..storey() })
+        .collect();
     let sound = Member { m_e: 0, ..member() };
     let members = [
         member(),
@@ -271,13 +604,20 @@ fn every_risky_place() {
     let f = judge_building(&h, &storeys, &members).unwrap();
     assert_eq!(f.risky_places, [1, 3]);
     let sheet = report(&h, &storeys, &members, usize::MAX).unwrap();
-    let tags: Vec<u8> = sheet.split(|&b| b == b'\n').filter_map(|l| l.first().copied()).collect();
+    let tags: Vec<u8> = sheet
+        .split(|&b| b == b'\n')
+        .filter_map(|l| l.first().copied())
+        .collect();
     assert_eq!(tags, b"MMSMMSMMSB");
 }
 
 #[test]
 fn order_of_members_changes_nothing() {
-    let jacketed = Member { number: 2, strengthened: 1, ..member() };
+    let jacketed = Member {
+        number: 2,
+        strengthened: 1,
+        ..member()
+    };
     let one = judge_storey(100, &storey(), &[member(), jacketed]).unwrap();
     let other = judge_storey(100, &storey(), &[jacketed, member()]).unwrap();
     assert_eq!(one, other);

@@ -46,10 +46,22 @@ fn one_when_reading() {
             }
         }
         // LF inside a line, a line too long, CR before LF.
-        assert_eq!(reading(&with_line(place, with_field(text, 2, "     \n 1"))), (1, place as u64));
-        assert_eq!(reading(&with_line(place, text.replace('\n', " \n"))), (1, place as u64));
-        assert_eq!(reading(&with_line(place, text.replace('\n', "\r\n"))), (1, place as u64));
-        assert_eq!(reading(&with_line(place, text.replace('\n', "\r"))), (1, place as u64));
+        assert_eq!(
+            reading(&with_line(place, with_field(text, 2, "     \n 1"))),
+            (1, place as u64)
+        );
+        assert_eq!(
+            reading(&with_line(place, text.replace('\n', " \n"))),
+            (1, place as u64)
+        );
+        assert_eq!(
+            reading(&with_line(place, text.replace('\n', "\r\n"))),
+            (1, place as u64)
+        );
+        assert_eq!(
+            reading(&with_line(place, text.replace('\n', "\r"))),
+            (1, place as u64)
+        );
     }
 }
 
@@ -60,11 +72,27 @@ fn two_when_reading() {
         let fields = (text.len() - 2) / 8;
         for field in 1..=fields {
             for raw in [
-                "        ", "12345678", "      01", "      +1", "      1 ", "     1 1", "      -0",
-                "     -01", "     - 1", "       -", "     1.0", "\t      1",
+                "        ",
+                "12345678",
+                "      01",
+                "      +1",
+                "      1 ",
+                "     1 1",
+                "      -0",
+                "     -01",
+                "     - 1",
+                "       -",
+                "     1.0",
+                "\t      1",
             ] {
                 let changed = with_line(place + 1, with_field(text, field, raw));
-                assert_eq!(reading(&changed), (2, place as u64 + 1), "{} {:?}", field, raw);
+                assert_eq!(
+                    reading(&changed),
+                    (2, place as u64 + 1),
+                    "{} {:?}",
+                    field,
+                    raw
+                );
             }
             let changed = with_line(place + 1, with_field(text, field, "      -1"));
             if text.starts_with('M') && (field == 18 || field == 19) {
@@ -168,14 +196,22 @@ fn ends_of_ranges_are_read() {
         for value in [least, most] {
             let mut lines = with_line(3, with_number(&line('M', M1), field, value));
             lines[3] = line('M', &second);
-            assert!(read(lines.concat().as_bytes(), 1, 2).is_ok(), "{} {}", field, value);
+            assert!(
+                read(lines.concat().as_bytes(), 1, 2).is_ok(),
+                "{} {}",
+                field,
+                value
+            );
         }
     }
 }
 
 #[test]
 fn four_to_seven_when_reading() {
-    assert_eq!(reading(&with_line(3, with_number(&line('M', M1), 3, 301))), (4, 3));
+    assert_eq!(
+        reading(&with_line(3, with_number(&line('M', M1), 3, 301))),
+        (4, 3)
+    );
     assert_eq!(reading(&with_line(4, line('M', M1))), (5, 4));
     let two_storeys = [
         line('B', "100 9000 3 0 0 2"),
@@ -195,8 +231,14 @@ fn four_to_seven_when_reading() {
         lines.push(after.to_string());
         assert_eq!(reading(&lines), (6, 5));
     }
-    assert_eq!(reading(&with_line(1, line('B', "100 30001 3 0 0 1"))), (7, 1));
-    assert_eq!(reading(&with_line(1, line('B', "100 9000 11 0 0 1"))), (7, 1));
+    assert_eq!(
+        reading(&with_line(1, line('B', "100 30001 3 0 0 1"))),
+        (7, 1)
+    );
+    assert_eq!(
+        reading(&with_line(1, line('B', "100 9000 11 0 0 1"))),
+        (7, 1)
+    );
 }
 
 #[test]
@@ -230,8 +272,14 @@ fn order_within_a_line() {
     assert_eq!(reading(&with_line(4, with_number(&both, 23, 0))), (3, 4));
     assert_eq!(reading(&with_line(4, with_number(&both, 1, 1))), (4, 4));
     // 3 before 7, though the field stands further right.
-    assert_eq!(reading(&with_line(1, line('B', "100 30001 3 0 0 4"))), (3, 1));
-    assert_eq!(reading(&with_line(1, line('B', "100 30001 3 0 -1 1"))), (2, 1));
+    assert_eq!(
+        reading(&with_line(1, line('B', "100 30001 3 0 0 4"))),
+        (3, 1)
+    );
+    assert_eq!(
+        reading(&with_line(1, line('B', "100 30001 3 0 -1 1"))),
+        (2, 1)
+    );
 }
 
 #[test]
@@ -278,30 +326,55 @@ fn records_refused_by_one() {
     assert_eq!(of(&header(), &[storey(), storey()], &pair()), (1, 0));
     assert_eq!(of(&header(), &[storey()], &short), (1, 0));
     // The total is not cut to 64 bits.
-    let h = Header { storey_count: 2, ..header() };
+    let h = Header {
+        storey_count: 2,
+        ..header()
+    };
     let huge = [
-        Storey { member_count: u64::MAX, ..storey() },
-        Storey { number: 2, member_count: 3, ..storey() },
+        Storey {
+            member_count: u64::MAX,
+            ..storey()
+        },
+        Storey {
+            number: 2,
+            member_count: 3,
+            ..storey()
+        },
     ];
     assert_eq!(of(&h, &huge, &pair()), (1, 0));
 }
 
 #[test]
 fn records_refused_in_survey_order() {
-    let h = Header { storey_count: 2, ..header() };
-    let s1 = Storey { member_count: 1, ..storey() };
+    let h = Header {
+        storey_count: 2,
+        ..header()
+    };
+    let s1 = Storey {
+        member_count: 1,
+        ..storey()
+    };
     let s2 = Storey { number: 2, ..s1 };
     let of = |h: &Header, storeys: &[Storey], members: &[Member]| {
         let from_building = refused(judge_building(h, storeys, members));
         assert_eq!(from_building, refused(report(h, storeys, members, 0)));
         from_building.0
     };
-    let bad_side = Member { short_side: 301, ..member() };
+    let bad_side = Member {
+        short_side: 301,
+        ..member()
+    };
     let bad_range = Member { m_p: 0, ..member() };
     // Header: 3 before 7, both before all else.
-    let tall = Header { height: 30_001, ..h };
+    let tall = Header {
+        height: 30_001,
+        ..h
+    };
     assert_eq!(of(&tall, &[s1, s1], &[bad_side, bad_range]), 7);
-    let worse = Header { tilt_2: u64::MAX, ..tall };
+    let worse = Header {
+        tilt_2: u64::MAX,
+        ..tall
+    };
     assert_eq!(of(&worse, &[s1, s1], &[bad_side, bad_range]), 3);
     assert_eq!(of(&Header { knowledge: 95, ..h }, &[s1, s2], &pair()), 3);
     // 1 before the header.
@@ -310,43 +383,132 @@ fn records_refused_in_survey_order() {
     assert_eq!(of(&h, &[s1, s1], &[bad_side, bad_range]), 4);
     // The second storey's number before its member.
     assert_eq!(of(&h, &[s1, s1], &[member(), bad_range]), 5);
-    assert_eq!(of(&h, &[s1, Storey { shear: 0, ..s1 }], &[member(), bad_side]), 3);
+    assert_eq!(
+        of(&h, &[s1, Storey { shear: 0, ..s1 }], &[member(), bad_side]),
+        3
+    );
     assert_eq!(of(&h, &[s1, s2], &[member(), bad_range]), 3);
     // 3 before 4 before 5 in one member.
-    let both = Member { short_side: 301, m_p: 0, ..member() };
+    let both = Member {
+        short_side: 301,
+        m_p: 0,
+        ..member()
+    };
     assert_eq!(of(&header(), &[storey()], &[member(), both]), 3);
     assert_eq!(of(&header(), &[storey()], &[member(), bad_side]), 4);
     assert_eq!(of(&header(), &[storey()], &[member(), member()]), 5);
     // Counts whose total fits the rows but lie by themselves.
-    let none = Storey { member_count: 0, ..s1 };
-    assert_eq!(of(&h, &[none, Storey { member_count: 2, ..s2 }], &pair()), 3);
-    assert_eq!(of(&Header { storey_count: 0, ..header() }, &[], &[]), 3);
-    let many: Vec<Member> = (1..=201).map(|number| Member { number, ..member() }).collect();
-    assert_eq!(of(&header(), &[Storey { member_count: 201, ..storey() }], &many), 3);
+    let none = Storey {
+        member_count: 0,
+        ..s1
+    };
+    assert_eq!(
+        of(
+            &h,
+            &[
+                none,
+                Storey {
+                    member_count: 2,
+                    ..s2
+                }
+            ],
+            &pair()
+        ),
+        3
+    );
+    assert_eq!(
+        of(
+            &Header {
+                storey_count: 0,
+                ..header()
+            },
+            &[],
+            &[]
+        ),
+        3
+    );
+    let many: Vec<Member> = (1..=201)
+        .map(|number| Member { number, ..member() })
+        .collect();
+    assert_eq!(
+        of(
+            &header(),
+            &[Storey {
+                member_count: 201,
+                ..storey()
+            }],
+            &many
+        ),
+        3
+    );
     // n_s bounds the storey count.
-    assert_eq!(of(&Header { storeys_above_ground: 1, ..h }, &[s1, s2], &pair()), 3);
-    assert_eq!(of(&Header { storeys_above_ground: 11, ..h }, &[s1, s2], &pair()), 7);
+    assert_eq!(
+        of(
+            &Header {
+                storeys_above_ground: 1,
+                ..h
+            },
+            &[s1, s2],
+            &pair()
+        ),
+        3
+    );
+    assert_eq!(
+        of(
+            &Header {
+                storeys_above_ground: 11,
+                ..h
+            },
+            &[s1, s2],
+            &pair()
+        ),
+        7
+    );
 }
 
 #[test]
 fn storey_call_order() {
-    let bad = Storey { shear: 0, ..storey() };
+    let bad = Storey {
+        shear: 0,
+        ..storey()
+    };
     assert_eq!(refused(judge_storey(95, &bad, &[member()])), (1, 0));
-    let bad_side = Member { short_side: 301, ..member() };
-    assert_eq!(refused(judge_storey(95, &storey(), &[bad_side, bad_side])), (3, 0));
+    let bad_side = Member {
+        short_side: 301,
+        ..member()
+    };
+    assert_eq!(
+        refused(judge_storey(95, &storey(), &[bad_side, bad_side])),
+        (3, 0)
+    );
     assert_eq!(refused(judge_storey(90, &bad, &pair())), (3, 0));
-    assert_eq!(refused(judge_storey(90, &storey(), &[bad_side, bad_side])), (4, 0));
-    assert_eq!(refused(judge_storey(90, &storey(), &[member(), member()])), (5, 0));
-    let zero = Storey { member_count: 0, ..storey() };
+    assert_eq!(
+        refused(judge_storey(90, &storey(), &[bad_side, bad_side])),
+        (4, 0)
+    );
+    assert_eq!(
+        refused(judge_storey(90, &storey(), &[member(), member()])),
+        (5, 0)
+    );
+    let zero = Storey {
+        member_count: 0,
+        ..storey()
+    };
     assert_eq!(refused(judge_storey(100, &zero, &[])), (3, 0));
 }
 
 #[test]
 fn member_call_order() {
-    let bad_side = Member { short_side: 301, ..member() };
+    let bad_side = Member {
+        short_side: 301,
+        ..member()
+    };
     assert_eq!(refused(judge_member(95, false, &bad_side)), (3, 0));
     assert_eq!(refused(judge_member(100, true, &bad_side)), (4, 0));
-    let both = Member { drift: 10_000_000, ..bad_side };
+    let both = Member {
+        drift: 10_000_000,
+        ..bad_side
+    };
     assert_eq!(refused(judge_member(100, true, &both)), (3, 0));
 }
 
@@ -391,7 +553,11 @@ fn extreme_records_never_panic() {
                 rotation: value,
                 drift: value,
             };
-            let s = Storey { number: value, shear: value, member_count: value };
+            let s = Storey {
+                number: value,
+                shear: value,
+                member_count: value,
+            };
             let h = Header {
                 knowledge: value,
                 height: value,

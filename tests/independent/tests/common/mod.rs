@@ -59,7 +59,11 @@ pub fn header() -> Header {
 }
 
 pub fn storey() -> Storey {
-    Storey { number: 1, shear: 1000, member_count: 2 }
+    Storey {
+        number: 1,
+        shear: 1000,
+        member_count: 2,
+    }
 }
 
 /// The example's first member: a column of class B.
@@ -95,12 +99,23 @@ pub fn member() -> Member {
 }
 
 pub fn second_member() -> Member {
-    Member { number: 2, n_d: 3_600, m_e: 400, v: 700, ..member() }
+    Member {
+        number: 2,
+        n_d: 3_600,
+        m_e: 400,
+        v: 700,
+        ..member()
+    }
 }
 
 /// A column that is detailed.
 pub fn detailed() -> Member {
-    Member { s: 100, hooks: 1, a_sh: 1_000, ..member() }
+    Member {
+        s: 100,
+        hooks: 1,
+        a_sh: 1_000,
+        ..member()
+    }
 }
 
 /// A wall of class A with boundary zone: v = V_e, n = N_K.
