@@ -1,7 +1,7 @@
 -- Laws of the spelling of a number, column by column.
 use Prim.Native.Nat.{ℕ, zero, suc, _+_, _-_, _*_, _/_, _%_, _^_, _≤_, _<_}
 use native.Mathlib.Omega.{arith}
-use native.Mathlib.Nat.{not-suc-le-zero, pow-suc, pow-le-pow-right}
+use native.Mathlib.Nat.{div-lt-iff-lt-mul, not-suc-le-zero, pow-suc, pow-le-pow-right}
 use native.Mathlib.Numerals.{add-one}
 use mathlib.Core.Bool.{Bool, true, false, _&&_, and-false}
 use mathlib.Core.List.{List, [], _∷_}
@@ -9,7 +9,7 @@ use mathlib.Core.Path.{_≡_, refl, ap, sym, _∙_}
 use lib.Dec.{leb, ltb, eqb, eqb·suc-zero}
 use lib.ListN.{length, take, drop, getD, length-drop}
 use lib.Seq.{drop-cons}
-use borrow.Author.Tests.{lt-ltb, le-ltb, eq-eqb, ne-eqb, leb-true, le-leb, lt-leb}
+use borrow.Author.Tests.{eqb-true, ltb-true, ltb-false, lt-ltb, le-ltb, eq-eqb, ne-eqb, leb-true, le-leb, lt-leb}
 use Rattle.reading.specs.First.{pick}
 use Rattle.reading.specs.Spelling.{column, spelled, same, pushed, value}
 use Rattle.reading.proofs.Below.{and-left, and-right}
@@ -86,3 +86,27 @@ pub same-step : (l : List ℕ) (j k s n : ℕ) (x : Bool) → j < length l → 0
 same-step l j k s n x h p eq e =
     let q : k ≡ (k - 1) + 1 = omega arith in
     rw (same-more l j (k - 1) s n h, eq-eqb _ _ eq) at (rw q at e)
+
+pub same-eq : (xs ys : List ℕ) → same xs ys ≡ true → xs ≡ ys
+unfolding same
+same-eq [] [] e = refl
+same-eq [] (y ∷ ys) e = let z : _≡_ {A = ℕ} 0 1 = cc in absurd (omega arith)
+same-eq (x ∷ xs) [] e = let z : _≡_ {A = ℕ} 0 1 = cc in absurd (omega arith)
+same-eq (x ∷ xs) (y ∷ ys) e =
+    let p = eqb-true x y (and-left (eqb x y) (same xs ys) e) in
+    let q = same-eq xs ys (and-right (eqb x y) (same xs ys) e) in
+    cc
+
+-- a number with a minus and a blank before it has fewer digits than the columns after the blank
+no-blank : (t : Bool) (x : ℕ) → pick t 45 (48 + x) ≡ 32 → ⊥
+no-blank true x e = omega (arith, e)
+no-blank false x e = omega (arith, e)
+
+blank-more : (t : Bool) (n j a b : ℕ) → (t ≡ true → n < 10) → (b ≡ 32 → n / 10 < 10 ^ j) → pick t a b ≡ 32 → n < 10 ^ suc j
+blank-more true n j a b h g e = rw pow-suc (omega (arith, h refl, pow-le-pow-right {n = 10} (omega arith) {i = 0} {j = j} (omega arith)))
+blank-more false n j a b h g e = rw pow-suc (div-lt-iff-lt-mul {k = 10} {x = n} {y = 10 ^ j} (omega arith) .0 (g e))
+
+pub blank-small : (n j : ℕ) → column 45 n (suc j) ≡ 32 → n < 10 ^ j
+unfolding column
+blank-small n zero e = absurd (no-blank (ltb n 10) (n / 10 % 10) e)
+blank-small n (suc j) e = blank-more (ltb n 10) n j _ _ (ltb-true n 10) (blank-small (n / 10) j) e

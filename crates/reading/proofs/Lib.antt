@@ -2,3 +2,4 @@ pub mod Allowing
 pub mod Below
 pub mod Columns
 pub mod Validity
+pub mod Written

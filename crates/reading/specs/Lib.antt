@@ -1,3 +1,4 @@
+pub mod Field
 pub mod First
 pub mod Records
 pub mod Spelling

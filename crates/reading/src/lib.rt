@@ -1,4 +1,5 @@
 // Reading a survey: the records, what makes one good, and the call that reads a file into lent rows.
+pub mod cursor;
 pub mod ranges;
 pub mod records;
 pub mod spelling;

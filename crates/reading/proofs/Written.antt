@@ -1,0 +1,61 @@
+-- Laws of a field: when it is written as it must be, and what it then holds.
+use Prim.Native.Nat.{ℕ, zero, suc, _+_, _-_, _*_, _^_, _≤_, _<_}
+use native.Mathlib.Omega.{arith}
+use mathlib.Core.Bool.{Bool, true, false, _&&_, and-false}
+use mathlib.Core.List.{List, [], _∷_}
+use mathlib.Core.Option.{Option, some, none}
+use mathlib.Core.Path.{_≡_, refl, ap, sym, _∙_}
+use lib.Dec.{ltb, eqb}
+use lib.ListN.{length, take, drop, getD}
+use lib.Seq.{getD-take, getD-drop}
+use borrow.Author.Tests.{eqb-true, eq-eqb, ne-eqb, lt-ltb, le-ltb}
+use Rattle.reading.specs.First.{pick}
+use Rattle.reading.specs.Spelling.{column, spelled, same, value, written, fieldOf}
+use Rattle.reading.specs.declared.cursor.Field.the-variants.{Number, Unwritten}
+use Rattle.reading.specs.Field.{fieldStep}
+use Rattle.reading.proofs.Below.{and-left, and-right}
+use Rattle.reading.proofs.Columns.{same-eq, blank-small}
+
+text-head : (l : List ℕ) (at : ℕ) → getD (take 8 (drop at l)) 0 0 ≡ getD l at 0
+text-head l at = let e : at + 0 ≡ at = omega arith in getD-take 8 (drop at l) 0 0 (omega arith) ∙ getD-drop at l 0 0 ∙ ap (λ (k : ℕ). getD l k 0) e
+
+pub written-not : (l : List ℕ) (at sign : ℕ) → (getD l at 0 ≡ 32 → ⊥) → false ≡ written sign (take 8 (drop at l))
+unfolding written
+written-not l at sign ne = rw (text-head l at, ne-eqb _ _ ne)
+
+pub written-by : (l : List ℕ) (at sign n : ℕ) (r : Bool) → getD l at 0 ≡ 32 → n ≡ value 0 (take 8 (drop at l)) → r ≡ same (take 8 (drop at l)) (spelled 8 sign n) → r ≡ written sign (take 8 (drop at l))
+unfolding written
+written-by l at sign n r e f g = g ∙ rw (text-head l at, eq-eqb _ _ e, f)
+
+module _ (t : List ℕ) (n next : ℕ) (f : n ≡ value 0 t) where
+  pub plain-number : written 32 t ≡ true → Number n (record { at = next }) ≡ fieldStep (fieldOf false t) next
+  unfolding fieldOf
+  plain-number w = rw (w, f)
+
+  pub force-number : written 32 t ≡ true → Number (1_000_000 + n) (record { at = next }) ≡ fieldStep (fieldOf true t) next
+  unfolding fieldOf
+  force-number w = rw (w, f)
+
+  pub force-zero : written 32 t ≡ false → n ≡ 0 → Unwritten (record { at = next }) ≡ fieldStep (fieldOf true t) next
+  unfolding fieldOf
+  force-zero w z = let e : value 0 t ≡ 0 = sym f ∙ z in rw (w, e) (simp and-false)
+
+  pub force-minus : written 32 t ≡ false → written 45 t ≡ true → (n ≡ 0 → ⊥) → Number (1_000_000 - n) (record { at = next }) ≡ fieldStep (fieldOf true t) next
+  unfolding fieldOf
+  force-minus w v z = rw (w, v, lt-ltb 0 (value 0 t) (omega (arith, z)), f)
+
+  pub force-not : written 32 t ≡ false → written 45 t ≡ false → Unwritten (record { at = next }) ≡ fieldStep (fieldOf true t) next
+  unfolding fieldOf
+  force-not w v = rw (w, v)
+
+pub plain-not : (t : List ℕ) (next : ℕ) → written 32 t ≡ false → Unwritten (record { at = next }) ≡ fieldStep (fieldOf false t) next
+unfolding fieldOf
+plain-not t next w = rw w
+
+-- a number with a minus has six digits at most
+pub minus-small : (t : List ℕ) → written 45 t ≡ true → value 0 t < 1_000_000
+unfolding written spelled
+minus-small t w =
+    let h = eqb-true (getD t 0 0) 32 (and-left (eqb (getD t 0 0) 32) _ w) in
+    let e = same-eq t (spelled 8 45 (value 0 t)) (and-right (eqb (getD t 0 0) 32) _ w) in
+    blank-small (value 0 t) 6 (ap (λ (l : List ℕ). getD l 0 0) (sym e) ∙ h)

@@ -1,0 +1,19 @@
+-- What a cursor's step answers: each case of the answer with what it holds.
+use Prim.Native.Nat.{ℕ}
+use mathlib.Core.Option.{Option, some, none}
+use Rattle.reading.specs.declared.cursor.Cursor.{Cursor}
+use Rattle.reading.specs.declared.cursor.Field.{Field}
+use Rattle.reading.specs.declared.cursor.Field.the-variants.{Number, Unwritten}
+
+-- the field's number if it is written as it must be, and the next place
+abbrev pub fieldStep : Option ℕ → ℕ → Field
+fieldStep (some v) next = Number v (record { at = next })
+fieldStep none next = Unwritten (record { at = next })
+
+abbrev pub numberOf : Field → ℕ
+numberOf (Number v c) = v
+numberOf (Unwritten c) = 0
+
+abbrev pub nextOf : Field → Cursor
+nextOf (Number v c) = c
+nextOf (Unwritten c) = c

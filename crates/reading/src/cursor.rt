@@ -1,0 +1,93 @@
+// A cursor over the bytes of a file: it takes a line field by field.
+ghost use mathlib.Core.Path.{_≡_};
+ghost use mathlib.Core.Bool.{true, false};
+ghost use Prim.Native.Nat.{_+_, _≤_};
+ghost use lib.ListN.{length, take, drop};
+ghost use Rattle.reading.specs.Spelling.{value, written, fieldOf};
+ghost use Rattle.reading.specs.Field.{fieldStep, numberOf, nextOf};
+use crate::spelling::digits;
+use crate::spelling::spells;
+
+pub struct Cursor {
+    pub at: usize,
+}
+
+// What a field holds, with the next place.
+pub enum Field {
+    Number(u64, Cursor),
+    Unwritten(Cursor),
+}
+
+// The eight bytes from `at`, whose digits make n, are a field written with this sign.
+fn is_written(s: &[u8], at: usize, sign: u8, n: u64) -> bool
+    requires { ⌜ (at + 8 ≤ length (now s)) × (n ≡ value 0 (take 8 (drop at (now s)))) ⌝ }
+    ensures { λ r. ⌜ r ≡ written sign (take 8 (drop at (now (s .entry)))) ⌝ }
+{
+    if s[at] != b' ' {
+        return false;
+    }
+    spells(s, at, 8, sign, n)
+}
+
+// A field that holds no minus.
+fn plain_at(s: &[u8], at: usize) -> Field
+    requires { ⌜ at + 8 ≤ length (now s) ⌝ }
+    ensures { λ r. ⌜ r ≡ fieldStep (fieldOf false (take 8 (drop at (now (s .entry))))) (at + 8) ⌝ }
+{
+    let n = digits(s, at);
+    if is_written(s, at, b' ', n) {
+        return Field::Number(n, Cursor { at: at + 8 });
+    }
+    Field::Unwritten(Cursor { at: at + 8 })
+}
+
+// N_D or N_K, counted from -1,000,000.
+fn force_at(s: &[u8], at: usize) -> Field
+    requires { ⌜ at + 8 ≤ length (now s) ⌝ }
+    ensures { λ r. ⌜ r ≡ fieldStep (fieldOf true (take 8 (drop at (now (s .entry))))) (at + 8) ⌝ }
+{
+    let n = digits(s, at);
+    if is_written(s, at, b' ', n) {
+        return Field::Number(1000000 + n, Cursor { at: at + 8 });
+    }
+    if n == 0 {
+        return Field::Unwritten(Cursor { at: at + 8 });
+    }
+    if is_written(s, at, b'-', n) {
+        return Field::Number(1000000 - n, Cursor { at: at + 8 });
+    }
+    Field::Unwritten(Cursor { at: at + 8 })
+}
+
+impl Cursor {
+    // The field at the cursor.
+    pub(crate) fn field(self, s: &[u8], force: bool) -> Field
+        requires { ⌜ self .at + 8 ≤ length (now s) ⌝ }
+        ensures { λ r. ⌜ r ≡ fieldStep (fieldOf force (take 8 (drop (self .at) (now (s .entry))))) (self .at + 8) ⌝ }
+    {
+        let at = self.at;
+        if force {
+            return force_at(s, at);
+        }
+        plain_at(s, at)
+    }
+}
+
+// The number of a field, 0 where it is not written as it must be.
+pub(crate) fn number_of(f: Field) -> u64
+    ensures { λ r. ⌜ r ≡ numberOf f ⌝ }
+{
+    match f {
+        Field::Number(v, _) => v,
+        Field::Unwritten(_) => 0,
+    }
+}
+
+pub(crate) fn next_of(f: Field) -> Cursor
+    ensures { λ r. ⌜ r ≡ nextOf f ⌝ }
+{
+    match f {
+        Field::Number(_, c) => c,
+        Field::Unwritten(c) => c,
+    }
+}
