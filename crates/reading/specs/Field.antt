@@ -17,3 +17,7 @@ numberOf (Unwritten c) = 0
 abbrev pub nextOf : Field → Cursor
 nextOf (Number v c) = c
 nextOf (Unwritten c) = c
+
+abbrev pub optionOf : Field → Option ℕ
+optionOf (Number v c) = some v
+optionOf (Unwritten c) = none

@@ -1,5 +1,6 @@
 // Reading a survey: the records, what makes one good, and the call that reads a file into lent rows.
 pub mod cursor;
+pub mod lines;
 pub mod ranges;
 pub mod records;
 pub mod spelling;

@@ -1,0 +1,66 @@
+-- Laws of a line's end and shape.
+use Prim.Native.Nat.{ℕ, zero, suc, _+_, _*_, _-_, _≤_, _<_}
+use native.Mathlib.Omega.{arith}
+use native.Mathlib.Numerals.{add-one}
+use mathlib.Core.Bool.{Bool, true, false, _&&_, and-false}
+use mathlib.Core.List.{List, [], _∷_}
+use mathlib.Core.Path.{_≡_, refl, ap, sym, _∙_}
+use lib.Dec.{ltb, eqb}
+use lib.ListN.{length, drop, getD, length-drop, drop-of-length-le}
+use lib.Seq.{drop-cons, getD-drop}
+use borrow.Author.Tests.{eq-eqb, ne-eqb, lt-ltb, le-ltb, ltb-true, ltb-false}
+use Rattle.reading.specs.First.{pick}
+use Rattle.reading.specs.Records.{fields}
+use Rattle.reading.specs.Lines.{tagByte, lineEnd, shaped}
+use Rattle.reading.specs.declared.records.Tag.{Tag}
+use Rattle.reading.specs.declared.records.Tag.the-variants.{B, S, M}
+
+module _ (l : List ℕ) (i : ℕ) where
+  pub end-here : i < length l → getD l i 0 ≡ 10 → lineEnd (drop i l) ≡ 0
+  unfolding lineEnd
+  end-here h e = rw (drop-cons l i 0 h, eq-eqb _ _ e)
+
+  pub end-later : i < length l → (getD l i 0 ≡ 10 → ⊥) → lineEnd (drop i l) ≡ lineEnd (drop (i + 1) l) + 1
+  unfolding lineEnd
+  end-later h ne = rw (drop-cons l i 0 h, ne-eqb _ _ ne, add-one i) (sym (add-one _))
+
+  pub end-none : length l ≤ i → lineEnd (drop i l) ≡ 0
+  unfolding lineEnd
+  end-none h = rw (drop-of-length-le l h)
+
+agree : (t u : Bool) → (t ≡ true → u ≡ true) → (t ≡ false → u ≡ false) → t ≡ u
+agree true u f g = sym (f refl)
+agree false u f g = sym (g refl)
+
+shift-test : (a b k : ℕ) → a ≤ b → ltb (a + k) b ≡ ltb k (b - a)
+shift-test a b k h =
+    agree _ _ (λ e. lt-ltb k (b - a) (omega (arith, ltb-true (a + k) b e))) (λ e. le-ltb k (b - a) (omega (arith, ltb-false (a + k) b e)))
+
+-- no tag is 0, which stands past the end
+tag-some : (t : Tag) → eqb 0 (tagByte t) ≡ false
+tag-some B = refl
+tag-some S = refl
+tag-some M = refl
+
+module _ (l : List ℕ) (at : ℕ) (t : Tag) where
+  head : getD (drop at l) 0 0 ≡ getD l at 0
+  head = let e : at + 0 ≡ at = omega arith in getD-drop at l 0 0 ∙ ap (λ (k : ℕ). getD l k 0) e
+
+  pub not-begun : length l ≤ at → false ≡ shaped t (drop at l)
+  unfolding shaped
+  not-begun h = rw (drop-of-length-le l h, tag-some t)
+
+  pub not-tagged : (getD l at 0 ≡ tagByte t → ⊥) → false ≡ shaped t (drop at l)
+  unfolding shaped
+  not-tagged ne = rw (head, ne-eqb _ _ ne)
+
+  pub not-long : (lineEnd (drop at l) ≡ 8 * fields t + 1 → ⊥) → false ≡ shaped t (drop at l)
+  unfolding shaped
+  not-long ne = rw (ne-eqb _ _ ne) (simp and-false)
+
+  pub by-end : (end n : ℕ) → at ≤ length l → getD l at 0 ≡ tagByte t → end ≡ at + lineEnd (drop at l) → n ≡ fields t → end - at ≡ 8 * n + 1 → ltb end (length l) ≡ shaped t (drop at l)
+  unfolding shaped
+  by-end end n h e f g k =
+      let p : lineEnd (drop at l) ≡ 8 * fields t + 1 = omega arith in
+      let q : end ≡ at + (8 * fields t + 1) = omega arith in
+      rw (head, eq-eqb _ _ e, eq-eqb _ _ p, q, shift-test at (length l) (8 * fields t + 1) h, ← length-drop at l)

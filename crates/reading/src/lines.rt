@@ -1,0 +1,112 @@
+// The lines of a survey file.
+ghost use mathlib.Core.Path.{_≡_};
+ghost use mathlib.Core.List.{List};
+ghost use Prim.Native.Nat.{ℕ, _+_, _*_, _<_, _≤_};
+ghost use lib.Dec.{eqb};
+ghost use lib.ListN.{length, take, drop, getD};
+ghost use Rattle.reading.specs.First.{pick};
+ghost use Rattle.reading.specs.Records.{allows, never, ranges, fields};
+ghost use Rattle.reading.specs.Field.{optionOf};
+ghost use Rattle.reading.specs.Lines.{tagByte, lineEnd, shaped, isForce, faultIn, fieldsFault, valueAt, headerBy, storeyBy, memberBy};
+ghost use Rattle.reading.specs.declared.records.Tag.the-variants.{M};
+use crate::cursor::Cursor;
+use crate::cursor::Field;
+use crate::cursor::next_of;
+use crate::cursor::number_of;
+use crate::ranges::field_count;
+use crate::ranges::range_allows;
+use crate::records::Header;
+use crate::records::LoadCase;
+use crate::records::Member;
+use crate::records::Storey;
+use crate::records::Tag;
+
+fn tag_byte(tag: Tag) -> u8
+    ensures { λ r. ⌜ r ≡ tagByte tag ⌝ }
+{
+    match tag {
+        Tag::B => b'B',
+        Tag::S => b'S',
+        Tag::M => b'M',
+    }
+}
+
+// The place of the first LF from `at` on, or the end.
+fn line_end(s: &[u8], at: usize) -> usize
+    requires { ⌜ at ≤ length (now s) ⌝ }
+    ensures { λ r. ⌜ r ≡ at + lineEnd (drop at (now (s .entry))) ⌝ }
+{
+    let mut i = at;
+    while i < s.len() {
+        if s[i] == b'\n' {
+            return i;
+        }
+        i += 1;
+    }
+    i
+}
+
+// A line of this tag begins at `at`.
+pub(crate) fn is_shaped(s: &[u8], at: usize, tag: Tag) -> bool
+    ensures { λ r. ⌜ r ≡ shaped tag (drop at (now (s .entry))) ⌝ }
+{
+    if s.len() <= at {
+        return false;
+    }
+    if s[at] != tag_byte(tag) {
+        return false;
+    }
+    let end = line_end(s, at);
+    if end - at != 8 * field_count(tag) + 1 {
+        return false;
+    }
+    end < s.len()
+}
+
+fn is_force(tag: Tag, j: usize) -> bool
+    ensures { λ r. ⌜ r ≡ isForce tag j ⌝ }
+{
+    match tag {
+        Tag::B => false,
+        Tag::S => false,
+        Tag::M => is_force_field(j),
+    }
+}
+
+fn is_force_field(j: usize) -> bool
+    ensures { λ r. ⌜ r ≡ isForce M j ⌝ }
+{
+    if j == 17 {
+        return true;
+    }
+    j == 18
+}
+
+// 2 or 3 of field j, or 0.
+fn fault_of(f: Field, tag: Tag, j: usize, storeys: u64) -> u64
+    ensures { λ r. ⌜ r ≡ faultIn (optionOf f) (getD (ranges tag storeys) j never) ⌝ }
+{
+    match f {
+        Field::Number(v, _) => range_fault(tag, j, v, storeys),
+        Field::Unwritten(_) => 2,
+    }
+}
+
+fn range_fault(tag: Tag, j: usize, v: u64, storeys: u64) -> u64
+    ensures { λ r. ⌜ r ≡ pick (allows (getD (ranges tag storeys) j never) v) 0 3 ⌝ }
+{
+    if range_allows(tag, j, v, storeys) {
+        return 0;
+    }
+    3
+}
+
+// The first of two refusals.
+pub(crate) fn earlier(a: u64, b: u64) -> u64
+    ensures { λ r. ⌜ r ≡ pick (eqb a 0) b a ⌝ }
+{
+    if a == 0 {
+        return b;
+    }
+    a
+}
