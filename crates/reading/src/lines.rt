@@ -6,7 +6,7 @@ ghost use lib.Dec.{eqb};
 ghost use lib.ListN.{length, take, drop, getD};
 ghost use Rattle.reading.specs.First.{pick};
 ghost use Rattle.reading.specs.Records.{allows, never, ranges, fields};
-ghost use Rattle.reading.specs.Field.{optionOf};
+ghost use Rattle.reading.specs.Field.{optionOf, FieldsOf};
 ghost use Rattle.reading.specs.Lines.{tagByte, lineEnd, shaped, isForce, faultIn, fieldsFault, valueAt, headerBy, storeyBy, memberBy};
 ghost use Rattle.reading.specs.declared.records.Tag.the-variants.{M};
 use crate::cursor::Cursor;
@@ -109,4 +109,88 @@ pub(crate) fn earlier(a: u64, b: u64) -> u64
         return b;
     }
     a
+}
+
+// The numbers of a line's fields, in order, and the first refusal among its fields.
+pub(crate) struct Fields {
+    pub fault: u64,
+    pub values: [u64; 26],
+}
+
+pub(crate) fn read_fields(s: &[u8], at: usize, tag: Tag) -> Fields
+    requires { ⌜ at + 1 + 8 * fields tag ≤ length (now s) ⌝ }
+    ensures { λ r. ⌜ FieldsOf tag (now (s .entry)) at r ⌝ }
+{
+    let n = field_count(tag);
+    let mut values = [0u64; 26];
+    let mut fault = 0;
+    let mut c = Cursor { at: at + 1 };
+    let mut j = 0;
+    while j < n {
+        let f = c.field(s, is_force(tag, j));
+        values[j] = number_of(f);
+        fault = earlier(fault, fault_of(f, tag, j, values[2]));
+        c = next_of(f);
+        j += 1;
+    }
+    Fields { fault, values }
+}
+
+pub(crate) fn header_of(vs: [u64; 26]) -> Header
+    ensures { λ r. ⌜ r ≡ headerBy (λ (j : ℕ). getD vs j 0) ⌝ }
+{
+    Header {
+        knowledge: vs[0],
+        height: vs[1],
+        storeys: vs[2],
+        tilt1: vs[3],
+        tilt2: vs[4],
+        count: vs[5],
+    }
+}
+
+pub(crate) fn storey_of(vs: [u64; 26]) -> Storey
+    ensures { λ r. ⌜ r ≡ storeyBy (λ (j : ℕ). getD vs j 0) ⌝ }
+{
+    Storey {
+        number: vs[0],
+        shear: vs[1],
+        count: vs[2],
+    }
+}
+
+pub(crate) fn member_of(vs: [u64; 26]) -> Member
+    ensures { λ r. ⌜ r ≡ memberBy (λ (j : ℕ). getD vs j 0) ⌝ }
+{
+    let case = LoadCase {
+        nk: vs[18],
+        me: vs[19],
+        mp: vs[20],
+        ve: vs[21],
+        vr: vs[22],
+        shear: vs[23],
+        rotation: vs[24],
+        drift: vs[25],
+    };
+    Member {
+        number: vs[0],
+        long: vs[1],
+        short: vs[2],
+        area: vs[3],
+        fcm: vs[4],
+        fctm: vs[5],
+        fyw: vs[6],
+        depth: vs[7],
+        height: vs[8],
+        spacing: vs[9],
+        core: vs[10],
+        hoops: vs[11],
+        hooks: vs[12],
+        zone: vs[13],
+        strengthened: vs[14],
+        factor: vs[15],
+        damage: vs[16],
+        nd: vs[17],
+        case,
+    }
 }
