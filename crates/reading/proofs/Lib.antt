@@ -3,6 +3,7 @@ pub mod Below
 pub mod Columns
 pub mod Fields
 pub mod Firsts
+pub mod Held
 pub mod Shape
 pub mod Validity
 pub mod Written

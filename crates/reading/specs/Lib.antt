@@ -4,3 +4,5 @@ pub mod Lines
 pub mod Records
 pub mod Spelling
 pub mod Valid
+pub mod Survey
+pub mod Checks

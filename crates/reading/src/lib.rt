@@ -4,3 +4,4 @@ pub mod lines;
 pub mod ranges;
 pub mod records;
 pub mod spelling;
+pub mod survey;

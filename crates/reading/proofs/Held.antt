@@ -1,0 +1,96 @@
+-- What a line of the expected shape holds, and its first refusal.
+use Prim.Native.Nat.{ℕ, zero, suc, _+_, _*_, _-_, _≤_, _<_}
+use native.Mathlib.Omega.{arith}
+use mathlib.Core.Bool.{Bool, true, false, _&&_}
+use mathlib.Core.List.{List, [], _∷_}
+use mathlib.Core.Path.{_≡_, refl, ap, sym, _∙_}
+use lib.Dec.{ltb, eqb, eqb·suc-zero}
+use lib.ListN.{length, drop, getD, length-drop}
+use borrow.Author.Tests.{eqb-true, eq-eqb, ne-eqb, ltb-true}
+use Rattle.reading.specs.First.{pick, inOrder}
+use Rattle.reading.specs.Records.{fields, headerFault, storeyFault, memberFault}
+use Rattle.reading.specs.Lines.{tagByte, lineEnd, shaped, valueAt, fieldsFault, headerBy, storeyBy, memberBy, headerAt, storeyAt, memberAt}
+use Rattle.reading.specs.Field.{FieldsOf}
+use Rattle.reading.specs.Survey.{shape, headerLine}
+use Rattle.reading.specs.Checks.{storeyFirst, memberFirst, HeaderLineOf, StoreyLineOf, MemberLineOf}
+use Rattle.reading.specs.declared.records.Header.{Header}
+use Rattle.reading.specs.declared.records.Storey.{Storey}
+use Rattle.reading.specs.declared.records.Member.{Member}
+use Rattle.reading.specs.declared.records.Tag.{Tag}
+use Rattle.reading.specs.declared.records.Tag.the-variants.{B, S, M}
+use Rattle.reading.specs.declared.lines.Fields.{Fields}
+use Rattle.reading.proofs.Below.{and-left, and-right}
+
+-- a line of the expected shape lies within the file
+pub shaped-fits : (t : Tag) (s : List ℕ) (at : ℕ) → shaped t (drop at s) ≡ true → at + 2 + 8 * fields t ≤ length s
+unfolding shaped
+shaped-fits t s at e =
+    let a = and-right (eqb (getD (drop at s) 0 0) (tagByte t)) _ e in
+    let b = ltb-true (8 * fields t + 1) (length (drop at s)) (and-right (eqb (lineEnd (drop at s)) (8 * fields t + 1)) _ a) in
+    omega (arith, length-drop at s)
+
+-- ---- the record of a line, from the numbers read
+header-same : (f g : ℕ → ℕ) → ((j : ℕ) → j < 6 → f j ≡ g j) → headerBy f ≡ headerBy g
+header-same f g h = rw (h 0 (omega arith), h 1 (omega arith), h 2 (omega arith), h 3 (omega arith), h 4 (omega arith), h 5 (omega arith))
+
+storey-same : (f g : ℕ → ℕ) → ((j : ℕ) → j < 3 → f j ≡ g j) → storeyBy f ≡ storeyBy g
+storey-same f g h = rw (h 0 (omega arith), h 1 (omega arith), h 2 (omega arith))
+
+member-same : (f g : ℕ → ℕ) → ((j : ℕ) → j < 26 → f j ≡ g j) → memberBy f ≡ memberBy g
+member-same f g h =
+    rw
+    (h 0 (omega arith), h 1 (omega arith), h 2 (omega arith), h 3 (omega arith), h 4 (omega arith), h 5 (omega arith), h 6 (omega arith),
+    h 7 (omega arith), h 8 (omega arith), h 9 (omega arith), h 10 (omega arith), h 11 (omega arith), h 12 (omega arith), h 13 (omega arith),
+    h 14 (omega arith), h 15 (omega arith), h 16 (omega arith), h 17 (omega arith), h 18 (omega arith), h 19 (omega arith), h 20 (omega arith),
+    h 21 (omega arith), h 22 (omega arith), h 23 (omega arith), h 24 (omega arith), h 25 (omega arith))
+
+module _ (s : List ℕ) (at : ℕ) (f : Fields) where
+  pub header-held : (h : Header) → FieldsOf B s at f → h ≡ headerBy (λ (j : ℕ). getD (f .values) j 0) → h ≡ headerAt s at
+  unfolding headerAt
+  header-held h o e = e ∙ header-same (λ (j : ℕ). getD (f .values) j 0) (valueAt B s at) (o .values)
+
+  pub storey-held : (h : Storey) → FieldsOf S s at f → h ≡ storeyBy (λ (j : ℕ). getD (f .values) j 0) → h ≡ storeyAt s at
+  unfolding storeyAt
+  storey-held h o e = e ∙ storey-same (λ (j : ℕ). getD (f .values) j 0) (valueAt S s at) (o .values)
+
+  pub member-held : (h : Member) → FieldsOf M s at f → h ≡ memberBy (λ (j : ℕ). getD (f .values) j 0) → h ≡ memberAt s at
+  unfolding memberAt
+  member-held h o e = e ∙ member-same (λ (j : ℕ). getD (f .values) j 0) (valueAt M s at) (o .values)
+
+-- ---- the first refusal of a line
+last-of : (x : ℕ) → pick (eqb x 0) 0 x ≡ x
+last-of zero = refl
+last-of (suc x) = simp eqb·suc-zero
+
+pub header-unshaped : (s : List ℕ) (h : Header) → shaped B (drop 0 s) ≡ false → HeaderLineOf s (record { fault = 1; header = h })
+unfolding headerLine
+header-unshaped s h e = record { fault = rw e; holds = λ z. let y : ⊥ = omega (arith, z) in absurd y }
+
+pub header-shaped : (s : List ℕ) (f : Fields) (h : Header) (x r : ℕ) → shaped B (drop 0 s) ≡ true → FieldsOf B s 0 f → h ≡ headerBy (λ (j : ℕ). getD (f .values) j 0) → x ≡ headerFault h → r ≡ pick (eqb (f .fault) 0) x (f .fault) → HeaderLineOf s (record { fault = r; header = h })
+unfolding headerLine
+header-shaped s f h x r e o g k l =
+    let p = header-held s 0 f h o g in
+    record { fault = l ∙ rw (e, k, p, o .fault, last-of (headerFault (headerAt s 0))); holds = λ z. p }
+
+module _ (s : List ℕ) (at : ℕ) where
+  pub storey-unshaped : (held : Bool) (h : Storey) → shaped S (drop at s) ≡ false → StoreyLineOf s at held (record { fault = 1; storey = h })
+  storey-unshaped held h e = record { fault = rw e; holds = λ z. let y : ⊥ = omega (arith, z) in absurd y }
+
+  pub storey-unheld : (held : Bool) (h : Storey) → shaped S (drop at s) ≡ true → held ≡ false → StoreyLineOf s at held (record { fault = 8; storey = h })
+  storey-unheld held h e q = record { fault = rw (e, q); holds = λ z. let y : ⊥ = omega (arith, z) in absurd y }
+
+  pub storey-shaped : (held : Bool) (f : Fields) (h : Storey) (x r : ℕ) → shaped S (drop at s) ≡ true → held ≡ true → FieldsOf S s at f → h ≡ storeyBy (λ (j : ℕ). getD (f .values) j 0) → x ≡ storeyFault h → r ≡ pick (eqb (f .fault) 0) x (f .fault) → StoreyLineOf s at held (record { fault = r; storey = h })
+  storey-shaped held f h x r e q o g k l =
+      let p = storey-held s at f h o g in
+      record { fault = l ∙ rw (e, q, k, p, o .fault, last-of (storeyFault (storeyAt s at))); holds = λ z. p }
+
+  pub member-unshaped : (held : Bool) → shaped M (drop at s) ≡ false → MemberLineOf s at held (record { fault = 1; number = 0 })
+  member-unshaped held e = record { fault = rw e; number = λ z. let y : ⊥ = omega (arith, z) in absurd y }
+
+  pub member-unheld : (held : Bool) → shaped M (drop at s) ≡ true → held ≡ false → MemberLineOf s at held (record { fault = 8; number = 0 })
+  member-unheld held e q = record { fault = rw (e, q); number = λ z. let y : ⊥ = omega (arith, z) in absurd y }
+
+  pub member-shaped : (held : Bool) (f : Fields) (h : Member) (x r : ℕ) → shaped M (drop at s) ≡ true → held ≡ true → FieldsOf M s at f → h ≡ memberBy (λ (j : ℕ). getD (f .values) j 0) → x ≡ memberFault h → r ≡ pick (eqb (f .fault) 0) x (f .fault) → MemberLineOf s at held (record { fault = r; number = h .number })
+  member-shaped held f h x r e q o g k l =
+      let p = member-held s at f h o g in
+      record { fault = l ∙ rw (e, q, k, p, o .fault, last-of (memberFault (memberAt s at))); number = λ z. ap (λ (m : Member). m .number) p }

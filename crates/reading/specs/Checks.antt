@@ -1,0 +1,32 @@
+-- What the checks of a line answer: the first refusal but 5, and the record where there is none.
+use Prim.Native.Nat.{ℕ}
+use mathlib.Core.Bool.{Bool}
+use mathlib.Core.List.{List, [], _∷_}
+use mathlib.Core.Path.{_≡_}
+use Rattle.reading.specs.First.{pick, inOrder}
+use Rattle.reading.specs.Records.{storeyFault, memberFault}
+use Rattle.reading.specs.Lines.{fieldsFault, headerAt, storeyAt, memberAt}
+use Rattle.reading.specs.Survey.{shape, headerLine}
+use Rattle.reading.specs.declared.records.Tag.the-variants.{B, S, M}
+use Rattle.reading.specs.declared.survey.Fault.{Fault}
+use Rattle.reading.specs.declared.survey.HeaderLine.{HeaderLine}
+use Rattle.reading.specs.declared.survey.StoreyLine.{StoreyLine}
+use Rattle.reading.specs.declared.survey.MemberLine.{MemberLine}
+
+abbrev pub storeyFirst : List ℕ → ℕ → Bool → ℕ
+storeyFirst s at held = inOrder (shape S s at ∷ pick held 0 8 ∷ fieldsFault S s at ∷ storeyFault (storeyAt s at) ∷ [])
+
+abbrev pub memberFirst : List ℕ → ℕ → Bool → ℕ
+memberFirst s at held = inOrder (shape M s at ∷ pick held 0 8 ∷ fieldsFault M s at ∷ memberFault (memberAt s at) ∷ [])
+
+pub record HeaderLineOf (s : List ℕ) (r : HeaderLine) : Type 0 where
+  pub fault : r .fault ≡ headerLine s
+  pub holds : r .fault ≡ 0 → r .header ≡ headerAt s 0
+
+pub record StoreyLineOf (s : List ℕ) (at : ℕ) (held : Bool) (r : StoreyLine) : Type 0 where
+  pub fault : r .fault ≡ storeyFirst s at held
+  pub holds : r .fault ≡ 0 → r .storey ≡ storeyAt s at
+
+pub record MemberLineOf (s : List ℕ) (at : ℕ) (held : Bool) (r : MemberLine) : Type 0 where
+  pub fault : r .fault ≡ memberFirst s at held
+  pub number : r .fault ≡ 0 → r .number ≡ memberAt s at .number

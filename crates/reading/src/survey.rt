@@ -1,0 +1,139 @@
+// The check of a whole survey file: its first refusal, with the line.
+ghost use mathlib.Core.Path.{_≡_};
+ghost use mathlib.Core.List.{[], _∷_};
+ghost use Prim.Native.Nat.{ℕ, _+_, _*_, _<_, _≤_};
+ghost use lib.Dec.{eqb};
+ghost use lib.ListN.{length, getD};
+ghost use Rattle.reading.specs.First.{pick, any, inOrder};
+ghost use Rattle.reading.specs.Checks.{HeaderLineOf, StoreyLineOf, MemberLineOf};
+ghost use Rattle.reading.specs.Survey.{membersBefore, storey, membersFault};
+use crate::lines::Fields;
+use crate::lines::earlier;
+use crate::lines::header_of;
+use crate::lines::is_shaped;
+use crate::lines::member_of;
+use crate::lines::read_fields;
+use crate::lines::storey_of;
+use crate::ranges::header_fault;
+use crate::ranges::member_fault;
+use crate::ranges::storey_fault;
+use crate::records::Header;
+use crate::records::Storey;
+use crate::records::Tag;
+
+// A refusal and its line; number 0 is none.
+pub struct Fault {
+    pub number: u64,
+    pub line: u64,
+}
+
+// A line's first refusal but 5, and what it holds where there is none.
+pub(crate) struct HeaderLine {
+    pub fault: u64,
+    pub header: Header,
+}
+
+pub(crate) struct StoreyLine {
+    pub fault: u64,
+    pub storey: Storey,
+}
+
+pub(crate) struct MemberLine {
+    pub fault: u64,
+    pub number: u64,
+}
+
+pub(crate) fn header_line(s: &[u8]) -> HeaderLine
+    ensures { λ r. ⌜ HeaderLineOf (now (s .entry)) r ⌝ }
+{
+    if !is_shaped(s, 0, Tag::B) {
+        return HeaderLine {
+            fault: 1,
+            header: Header {
+                knowledge: 0,
+                height: 0,
+                storeys: 0,
+                tilt1: 0,
+                tilt2: 0,
+                count: 0,
+            },
+        };
+    }
+    let f = read_fields(s, 0, Tag::B);
+    let vs = f.values;
+    let h = header_of(vs);
+    HeaderLine {
+        fault: earlier(f.fault, header_fault(h)),
+        header: h,
+    }
+}
+
+// An S line; held says whether a row is free for it.
+fn storey_line(s: &[u8], at: usize, held: bool) -> StoreyLine
+    ensures { λ r. ⌜ StoreyLineOf (now (s .entry)) at held r ⌝ }
+{
+    let none = Storey {
+        number: 0,
+        shear: 0,
+        count: 0,
+    };
+    if !is_shaped(s, at, Tag::S) {
+        return StoreyLine {
+            fault: 1,
+            storey: none,
+        };
+    }
+    if !held {
+        return StoreyLine {
+            fault: 8,
+            storey: none,
+        };
+    }
+    let f = read_fields(s, at, Tag::S);
+    let vs = f.values;
+    let r = storey_of(vs);
+    StoreyLine {
+        fault: earlier(f.fault, storey_fault(r)),
+        storey: r,
+    }
+}
+
+// An M line; of a good one only the number is wanted.
+fn member_line(s: &[u8], at: usize, held: bool) -> MemberLine
+    ensures { λ r. ⌜ MemberLineOf (now (s .entry)) at held r ⌝ }
+{
+    if !is_shaped(s, at, Tag::M) {
+        return MemberLine {
+            fault: 1,
+            number: 0,
+        };
+    }
+    if !held {
+        return MemberLine {
+            fault: 8,
+            number: 0,
+        };
+    }
+    let f = read_fields(s, at, Tag::M);
+    let vs = f.values;
+    let m = member_of(vs);
+    MemberLine {
+        fault: earlier(f.fault, member_fault(m)),
+        number: m.number,
+    }
+}
+
+// 5 where one of the first n numbers is v.
+fn repeat_fault(numbers: &[u64; 200], n: usize, v: u64) -> u64
+    requires { ⌜ n ≤ 200 ⌝ }
+    ensures { λ r. ⌜ r ≡ pick (any (λ (e : ℕ). eqb (getD (now (numbers .entry)) e 0) v) n) 5 0 ⌝ }
+{
+    let mut e = 0;
+    while e < n {
+        if numbers[e] == v {
+            return 5;
+        }
+        e += 1;
+    }
+    0
+}
