@@ -6,9 +6,10 @@ use native.Mathlib.Numerals.{add-one}
 use mathlib.Core.Bool.{Bool, true, false}
 use mathlib.Core.Logic.{⊎-elim}
 use mathlib.Core.Path.{_≡_, refl, ap, sym, _∙_}
-use lib.Dec.{eqb}
+use lib.Dec.{eqb, eqb·suc-zero}
 use borrow.Author.Tests.{eq-eqb, ne-eqb, eqb-true, eqb-false}
-use Rattle.reading.specs.First.{pick, first}
+use mathlib.Core.List.{List, [], _∷_, _++_}
+use Rattle.reading.specs.First.{pick, inOrder, first}
 
 module _ {A : Type 0} (none : A) (number : A → ℕ) (f : ℕ → A) where
   pub first-none : first none number f 0 ≡ none
@@ -29,3 +30,27 @@ module _ {A : Type 0} (none : A) (number : A → ℕ) (f : ℕ → A) where
   first-kept i zero h ne = let e : i ≡ 0 = omega arith in rw e
   first-kept i (suc n) h ne =
       ⊎-elim (λ (e : i ≡ suc n). rw e) (λ (l : i < suc n). let k = first-kept i n (le-of-suc-le-suc l) ne in rw (k, ne-eqb _ _ ne)) (eq-or-lt-of-le h)
+
+pub last-of : (x : ℕ) → pick (eqb x 0) 0 x ≡ x
+last-of zero = refl
+last-of (suc x) = simp eqb·suc-zero
+
+one-more : (t : Bool) (a e x y : ℕ) → eqb a 0 ≡ t → y ≡ pick (eqb x 0) e x → pick t y a ≡ pick (eqb (pick t x a) 0) e (pick t x a)
+one-more true a e x y q h = h
+one-more false a e x y q h = rw q
+
+-- a list of refusals with one more at its end
+pub in-order-last : (later : List ℕ) (e : ℕ) → inOrder (later ++ (e ∷ [])) ≡ pick (eqb (inOrder later) 0) e (inOrder later)
+in-order-last [] e = last-of e
+in-order-last (a ∷ later) e = one-more (eqb a 0) a e (inOrder later) (inOrder (later ++ (e ∷ []))) refl (in-order-last later e)
+
+-- with the first of them known
+pub pick-zero : (x e : ℕ) → x ≡ 0 → pick (eqb x 0) e x ≡ e
+pick-zero x e h = rw (eq-eqb _ _ h)
+
+pub pick-other : (x e : ℕ) → (x ≡ 0 → ⊥) → pick (eqb x 0) e x ≡ x
+pick-other x e h = rw (ne-eqb _ _ h)
+
+pub pick-clear : (x y : ℕ) → pick (eqb x 0) y x ≡ 0 → x ≡ 0
+pick-clear zero y e = refl
+pick-clear (suc x) y e = simp eqb·suc-zero at e

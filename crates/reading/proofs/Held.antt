@@ -4,7 +4,7 @@ use native.Mathlib.Omega.{arith}
 use mathlib.Core.Bool.{Bool, true, false, _&&_}
 use mathlib.Core.List.{List, [], _∷_}
 use mathlib.Core.Path.{_≡_, refl, ap, sym, _∙_}
-use lib.Dec.{ltb, eqb, eqb·suc-zero}
+use lib.Dec.{ltb, eqb}
 use lib.ListN.{length, drop, getD, length-drop}
 use borrow.Author.Tests.{eqb-true, eq-eqb, ne-eqb, ltb-true}
 use Rattle.reading.specs.First.{pick, inOrder}
@@ -20,6 +20,7 @@ use Rattle.reading.specs.declared.records.Tag.{Tag}
 use Rattle.reading.specs.declared.records.Tag.the-variants.{B, S, M}
 use Rattle.reading.specs.declared.lines.Fields.{Fields}
 use Rattle.reading.proofs.Below.{and-left, and-right}
+use Rattle.reading.proofs.Firsts.{last-of}
 
 -- a line of the expected shape lies within the file
 pub shaped-fits : (t : Tag) (s : List ℕ) (at : ℕ) → shaped t (drop at s) ≡ true → at + 2 + 8 * fields t ≤ length s
@@ -58,10 +59,6 @@ module _ (s : List ℕ) (at : ℕ) (f : Fields) where
   member-held h o e = e ∙ member-same (λ (j : ℕ). getD (f .values) j 0) (valueAt M s at) (o .values)
 
 -- ---- the first refusal of a line
-last-of : (x : ℕ) → pick (eqb x 0) 0 x ≡ x
-last-of zero = refl
-last-of (suc x) = simp eqb·suc-zero
-
 pub header-unshaped : (s : List ℕ) (h : Header) → shaped B (drop 0 s) ≡ false → HeaderLineOf s (record { fault = 1; header = h })
 unfolding headerLine
 header-unshaped s h e = record { fault = rw e; holds = λ z. let y : ⊥ = omega (arith, z) in absurd y }

@@ -5,5 +5,6 @@ pub mod Fields
 pub mod Firsts
 pub mod Held
 pub mod Shape
+pub mod Storeys
 pub mod Validity
 pub mod Written

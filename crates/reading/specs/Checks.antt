@@ -1,12 +1,12 @@
 -- What the checks of a line answer: the first refusal but 5, and the record where there is none.
-use Prim.Native.Nat.{ℕ}
+use Prim.Native.Nat.{ℕ, _≤_, _<_}
 use mathlib.Core.Bool.{Bool}
 use mathlib.Core.List.{List, [], _∷_}
 use mathlib.Core.Path.{_≡_}
 use Rattle.reading.specs.First.{pick, inOrder}
 use Rattle.reading.specs.Records.{storeyFault, memberFault}
 use Rattle.reading.specs.Lines.{fieldsFault, headerAt, storeyAt, memberAt}
-use Rattle.reading.specs.Survey.{shape, headerLine}
+use Rattle.reading.specs.Survey.{membersBefore, storey, shape, headerLine}
 use Rattle.reading.specs.declared.records.Tag.the-variants.{B, S, M}
 use Rattle.reading.specs.declared.survey.Fault.{Fault}
 use Rattle.reading.specs.declared.survey.HeaderLine.{HeaderLine}
@@ -30,3 +30,11 @@ pub record StoreyLineOf (s : List ℕ) (at : ℕ) (held : Bool) (r : StoreyLine)
 pub record MemberLineOf (s : List ℕ) (at : ℕ) (held : Bool) (r : MemberLine) : Type 0 where
   pub fault : r .fault ≡ memberFirst s at held
   pub number : r .fault ≡ 0 → r .number ≡ memberAt s at .number
+
+-- m M lines stand before storey i, which has `count` members
+pub record MembersDue (s : List ℕ) (i m count : ℕ) : Type 0 where
+  pub storeys : i < 10
+  pub before : m ≡ membersBefore s i
+  pub most : m ≤ 2_000
+  pub held : count ≡ storey s i .count
+  pub count-most : count ≤ 200

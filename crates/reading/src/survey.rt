@@ -5,8 +5,8 @@ ghost use Prim.Native.Nat.{ℕ, _+_, _*_, _<_, _≤_};
 ghost use lib.Dec.{eqb};
 ghost use lib.ListN.{length, getD};
 ghost use Rattle.reading.specs.First.{pick, any, inOrder};
-ghost use Rattle.reading.specs.Checks.{HeaderLineOf, StoreyLineOf, MemberLineOf};
-ghost use Rattle.reading.specs.Survey.{membersBefore, storey, membersFault};
+ghost use Rattle.reading.specs.Checks.{HeaderLineOf, StoreyLineOf, MemberLineOf, MembersDue};
+ghost use Rattle.reading.specs.Survey.{place, membersBefore, storey, membersFault};
 use crate::lines::Fields;
 use crate::lines::earlier;
 use crate::lines::header_of;
@@ -136,4 +136,34 @@ fn repeat_fault(numbers: &[u64; 200], n: usize, v: u64) -> u64
         e += 1;
     }
     0
+}
+
+// Where the line begins before which stand the B line, i S lines and m M lines.
+pub(crate) fn place_of(i: usize, m: usize) -> usize
+    requires { ⌜ (i ≤ 11) × (m ≤ 2200) ⌝ }
+    ensures { λ r. ⌜ r ≡ place i m ⌝ }
+{
+    50 + 26 * i + 210 * m
+}
+
+// The first refusal of the M lines of storey i, before which m M lines stand.
+fn members_fault(s: &[u8], i: usize, m: usize, count: usize, rows: usize) -> Fault
+    requires { ⌜ MembersDue (now s) i m count ⌝ }
+    ensures { λ r. ⌜ r ≡ membersFault (now (s .entry)) rows i ⌝ }
+{
+    let mut numbers = [0u64; 200];
+    let mut j = 0;
+    while j < count {
+        let l = member_line(s, place_of(i + 1, m + j), m + j < rows);
+        let f = earlier(l.fault, repeat_fault(&numbers, j, l.number));
+        if f != 0 {
+            return Fault {
+                number: f,
+                line: (3 + i + m + j) as u64,
+            };
+        }
+        numbers[j] = l.number;
+        j += 1;
+    }
+    Fault { number: 0, line: 0 }
 }
