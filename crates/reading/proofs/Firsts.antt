@@ -54,3 +54,7 @@ pick-other x e h = rw (ne-eqb _ _ h)
 pub pick-clear : (x y : ℕ) → pick (eqb x 0) y x ≡ 0 → x ≡ 0
 pick-clear zero y e = refl
 pick-clear (suc x) y e = simp eqb·suc-zero at e
+
+pub pick-both : (x y : ℕ) → pick (eqb x 0) y x ≡ 0 → y ≡ 0
+pick-both zero y e = e
+pick-both (suc x) y e = let z : ⊥ = omega (arith, simp eqb·suc-zero at e) in absurd z

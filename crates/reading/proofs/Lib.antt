@@ -2,6 +2,7 @@ pub mod Allowing
 pub mod Below
 pub mod Columns
 pub mod Fields
+pub mod Files
 pub mod Firsts
 pub mod Held
 pub mod Shape

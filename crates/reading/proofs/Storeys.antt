@@ -27,7 +27,7 @@ any-same p q zero h = refl
 any-same p q (suc n) h = rw (any-same p q n (λ e l. h e (omega arith)), h n (omega arith))
 
 -- a choice that a refusal decides: two second sides that agree where the first is none
-by-first : (x y z : ℕ) → (x ≡ 0 → y ≡ z) → pick (eqb x 0) y x ≡ pick (eqb x 0) z x
+pub by-first : (x y z : ℕ) → (x ≡ 0 → y ≡ z) → pick (eqb x 0) y x ≡ pick (eqb x 0) z x
 by-first zero y z h = h refl
 by-first (suc x) y z h = simp eqb·suc-zero
 

@@ -6,12 +6,13 @@ use mathlib.Core.Path.{_≡_}
 use Rattle.reading.specs.First.{pick, inOrder}
 use Rattle.reading.specs.Records.{storeyFault, memberFault}
 use Rattle.reading.specs.Lines.{fieldsFault, headerAt, storeyAt, memberAt}
-use Rattle.reading.specs.Survey.{membersBefore, storey, shape, headerLine}
+use Rattle.reading.specs.Survey.{membersBefore, storey, shape, headerLine, or-else, firstFault, storeysFault, trailing}
 use Rattle.reading.specs.declared.records.Tag.the-variants.{B, S, M}
 use Rattle.reading.specs.declared.survey.Fault.{Fault}
 use Rattle.reading.specs.declared.survey.HeaderLine.{HeaderLine}
 use Rattle.reading.specs.declared.survey.StoreyLine.{StoreyLine}
 use Rattle.reading.specs.declared.survey.MemberLine.{MemberLine}
+use Rattle.reading.specs.declared.survey.Checked.{Checked}
 
 abbrev pub storeyFirst : List ℕ → ℕ → Bool → ℕ
 storeyFirst s at held = inOrder (shape S s at ∷ pick held 0 8 ∷ fieldsFault S s at ∷ storeyFault (storeyAt s at) ∷ [])
@@ -38,3 +39,8 @@ pub record MembersDue (s : List ℕ) (i m count : ℕ) : Type 0 where
   pub most : m ≤ 2_000
   pub held : count ≡ storey s i .count
   pub count-most : count ≤ 200
+
+-- the first refusal of a file after its B line, with n S lines, and its members where there is none
+pub record CheckedOf (s : List ℕ) (n srows mrows : ℕ) (r : Checked) : Type 0 where
+  pub fault : record { number = r .number; line = r .line } ≡ or-else (firstFault (storeysFault s srows mrows) n) (trailing s n)
+  pub members : r .number ≡ 0 → r .members ≡ membersBefore s n

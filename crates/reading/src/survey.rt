@@ -5,7 +5,7 @@ ghost use Prim.Native.Nat.{ℕ, _+_, _*_, _<_, _≤_};
 ghost use lib.Dec.{eqb};
 ghost use lib.ListN.{length, getD};
 ghost use Rattle.reading.specs.First.{pick, any, inOrder};
-ghost use Rattle.reading.specs.Checks.{HeaderLineOf, StoreyLineOf, MemberLineOf, MembersDue};
+ghost use Rattle.reading.specs.Checks.{HeaderLineOf, StoreyLineOf, MemberLineOf, MembersDue, CheckedOf};
 ghost use Rattle.reading.specs.Survey.{place, membersBefore, storey, membersFault};
 use crate::lines::Fields;
 use crate::lines::earlier;
@@ -166,4 +166,57 @@ fn members_fault(s: &[u8], i: usize, m: usize, count: usize, rows: usize) -> Fau
         j += 1;
     }
     Fault { number: 0, line: 0 }
+}
+
+// The first refusal after the B line, and how many members a file without one has.
+pub(crate) struct Checked {
+    pub number: u64,
+    pub line: u64,
+    pub members: usize,
+}
+
+// The first refusal of the S lines and their M lines, and of what follows the last.
+pub(crate) fn storeys_fault(s: &[u8], n: usize, srows: usize, mrows: usize) -> Checked
+    requires { ⌜ n ≤ 10 ⌝ }
+    ensures { λ r. ⌜ CheckedOf (now (s .entry)) n srows mrows r ⌝ }
+{
+    let mut numbers = [0u64; 200];
+    let mut i = 0;
+    let mut m = 0;
+    while i < n {
+        let l = storey_line(s, place_of(i, m), i < srows);
+        let st = l.storey;
+        let f = earlier(l.fault, repeat_fault(&numbers, i, st.number));
+        if f != 0 {
+            return Checked {
+                number: f,
+                line: (2 + i + m) as u64,
+                members: m,
+            };
+        }
+        let count = st.count as usize;
+        let g = members_fault(s, i, m, count, mrows);
+        if g.number != 0 {
+            return Checked {
+                number: g.number,
+                line: g.line,
+                members: m,
+            };
+        }
+        numbers[i] = st.number;
+        m += count;
+        i += 1;
+    }
+    if place_of(n, m) < s.len() {
+        return Checked {
+            number: 6,
+            line: (2 + n + m) as u64,
+            members: m,
+        };
+    }
+    Checked {
+        number: 0,
+        line: 0,
+        members: m,
+    }
 }
