@@ -5,6 +5,7 @@ pub mod Fields
 pub mod Files
 pub mod Firsts
 pub mod Held
+pub mod Numbers
 pub mod Shape
 pub mod Storeys
 pub mod Validity

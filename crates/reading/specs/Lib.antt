@@ -6,3 +6,4 @@ pub mod Spelling
 pub mod Valid
 pub mod Survey
 pub mod Checks
+pub mod Answer

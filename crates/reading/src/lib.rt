@@ -3,5 +3,6 @@ pub mod cursor;
 pub mod lines;
 pub mod ranges;
 pub mod records;
+pub mod refusal;
 pub mod spelling;
 pub mod survey;

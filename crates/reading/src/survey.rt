@@ -6,7 +6,8 @@ ghost use lib.Dec.{eqb};
 ghost use lib.ListN.{length, getD};
 ghost use Rattle.reading.specs.First.{pick, any, inOrder};
 ghost use Rattle.reading.specs.Checks.{HeaderLineOf, StoreyLineOf, MemberLineOf, MembersDue, CheckedOf};
-ghost use Rattle.reading.specs.Survey.{place, membersBefore, storey, membersFault};
+ghost use Rattle.reading.specs.Survey.{place, membersBefore, storey, membersFault, survey};
+ghost use Rattle.reading.specs.Answer.{tells, told};
 use crate::lines::Fields;
 use crate::lines::earlier;
 use crate::lines::header_of;
@@ -20,6 +21,8 @@ use crate::ranges::storey_fault;
 use crate::records::Header;
 use crate::records::Storey;
 use crate::records::Tag;
+use crate::refusal::Refusal;
+use crate::refusal::refusal_of;
 
 // A refusal and its line; number 0 is none.
 pub struct Fault {
@@ -218,5 +221,57 @@ pub(crate) fn storeys_fault(s: &[u8], n: usize, srows: usize, mrows: usize) -> C
         number: 0,
         line: 0,
         members: m,
+    }
+}
+
+// What reading a file comes to: the header and how many rows were filled, or the first refusal.
+pub enum ReadAnswer {
+    Accepted {
+        header: Header,
+        storeys: usize,
+        members: usize,
+    },
+    Refused {
+        refusal: Refusal,
+        line: u64,
+    },
+}
+
+pub struct Reading {
+    pub answer: ReadAnswer,
+}
+
+// The answer for a file, from its bytes and the numbers of rows lent.
+pub fn check(s: &[u8], srows: usize, mrows: usize) -> Reading
+    ensures { λ r. ⌜ tells (r .answer) ≡ told (survey (now (s .entry)) srows mrows) ⌝ }
+{
+    let l = header_line(s);
+    if l.fault != 0 {
+        let r = refusal_of(l.fault);
+        return Reading {
+            answer: ReadAnswer::Refused {
+                refusal: r,
+                line: 1,
+            },
+        };
+    }
+    let header = l.header;
+    let storeys = header.count as usize;
+    let c = storeys_fault(s, storeys, srows, mrows);
+    if c.number != 0 {
+        let r = refusal_of(c.number);
+        return Reading {
+            answer: ReadAnswer::Refused {
+                refusal: r,
+                line: c.line,
+            },
+        };
+    }
+    Reading {
+        answer: ReadAnswer::Accepted {
+            header,
+            storeys,
+            members: c.members,
+        },
     }
 }

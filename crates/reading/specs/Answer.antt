@@ -1,0 +1,48 @@
+-- The answer of the reading call, case by case in the paper's numbers (document 01, "Refusals as returned").
+use Prim.Native.Nat.{ℕ}
+use mathlib.Core.List.{List, _++_}
+use lib.ListN.{length, drop}
+use Rattle.reading.specs.Survey.{Outcome, accepted, refused}
+use Rattle.reading.specs.declared.records.Header.{Header}
+use Rattle.reading.specs.declared.records.Storey.{Storey}
+use Rattle.reading.specs.declared.records.Member.{Member}
+use Rattle.reading.specs.declared.refusal.Refusal.{Refusal}
+use Rattle.reading.specs.declared.refusal.Refusal.the-variants.{Line, Spelling, Range, Sides, Repeated, Trailing, Scope, Rows, Buffer, Shear}
+use Rattle.reading.specs.declared.survey.ReadAnswer.{ReadAnswer}
+use Rattle.reading.specs.declared.survey.ReadAnswer.the-variants.{Accepted, Refused}
+
+-- the number of a refusal
+abbrev pub numberOfRefusal : Refusal → ℕ
+numberOfRefusal Line = 1
+numberOfRefusal Spelling = 2
+numberOfRefusal Range = 3
+numberOfRefusal Sides = 4
+numberOfRefusal Repeated = 5
+numberOfRefusal Trailing = 6
+numberOfRefusal Scope = 7
+numberOfRefusal Rows = 8
+numberOfRefusal Buffer = 9
+numberOfRefusal Shear = 10
+
+-- what an answer tells: the header, with the numbers of rows filled; or a refusal, by its number, with its line
+pub data Told : Type 0 where
+  filled : Header → ℕ → ℕ → Told
+  refusal : ℕ → ℕ → Told
+
+abbrev pub tells : ReadAnswer → Told
+tells (Accepted h storeys members) = filled h storeys members
+tells (Refused r line) = refusal (numberOfRefusal r) line
+
+-- what is told of an outcome
+abbrev pub told : Outcome → Told
+told (accepted h ss ms) = filled h (length ss) (length ms)
+told (refused n line) = refusal n line
+
+-- the rows afterwards: filled from the front, the rest as they were; on a refusal all as they were
+abbrev pub storeysAfter : Outcome → List Storey → List Storey
+storeysAfter (accepted h ss ms) rows = ss ++ drop (length ss) rows
+storeysAfter (refused n line) rows = rows
+
+abbrev pub membersAfter : Outcome → List Member → List Member
+membersAfter (accepted h ss ms) rows = ms ++ drop (length ms) rows
+membersAfter (refused n line) rows = rows
