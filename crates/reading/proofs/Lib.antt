@@ -10,3 +10,6 @@ pub mod Shape
 pub mod Storeys
 pub mod Validity
 pub mod Written
+pub mod Placed
+pub mod Says
+pub mod Structs

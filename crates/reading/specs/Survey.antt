@@ -4,7 +4,7 @@ use Prim.Native.Nat.{ℕ, zero, suc, _+_, _*_}
 use mathlib.Core.Bool.{Bool, true, false}
 use mathlib.Core.List.{List, [], _∷_, _++_}
 use lib.Dec.{ltb, eqb}
-use lib.ListN.{length, drop}
+use lib.ListN.{length, drop, set}
 use Rattle.reading.specs.First.{pick, any, inOrder, first}
 use Rattle.reading.specs.Records.{headerFault, storeyFault, memberFault}
 use Rattle.reading.specs.Lines.{shaped, fieldsFault, headerAt, storeyAt, memberAt}
@@ -124,3 +124,8 @@ survey s srows mrows =
     pick (eqb (surveyFault s srows mrows .number) 0)
     (accepted (headerAt s 0) (storeysOf s (headerAt s 0 .count)) (membersOf s (headerAt s 0 .count)))
     (refused (surveyFault s srows mrows .number) (surveyFault s srows mrows .line))
+
+-- rows k, k + 1, .. of a list are f 0, f 1, ..: n of them
+unfoldable pub placed : {A : Type 0} → (ℕ → A) → ℕ → ℕ → List A → List A
+placed f k zero rows = rows
+placed f k (suc n) rows = set (placed f k n rows) (k + n) (f n)

@@ -4,5 +4,6 @@ pub mod lines;
 pub mod ranges;
 pub mod records;
 pub mod refusal;
+pub mod rows;
 pub mod spelling;
 pub mod survey;

@@ -7,6 +7,7 @@ ghost use lib.ListN.{length, getD};
 ghost use Rattle.reading.specs.First.{pick, any, inOrder};
 ghost use Rattle.reading.specs.Checks.{HeaderLineOf, StoreyLineOf, MemberLineOf, MembersDue, CheckedOf};
 ghost use Rattle.reading.specs.Survey.{place, membersBefore, storey, membersFault, survey};
+ghost use Rattle.reading.specs.Lines.{storeyAt, memberAt};
 ghost use Rattle.reading.specs.Answer.{tells, told};
 use crate::lines::Fields;
 use crate::lines::earlier;
@@ -19,6 +20,7 @@ use crate::ranges::header_fault;
 use crate::ranges::member_fault;
 use crate::ranges::storey_fault;
 use crate::records::Header;
+use crate::records::Member;
 use crate::records::Storey;
 use crate::records::Tag;
 use crate::refusal::Refusal;
@@ -274,4 +276,30 @@ pub fn check(s: &[u8], srows: usize, mrows: usize) -> Reading
             members: c.members,
         },
     }
+}
+
+// The storey of the S line before which stand i S lines and m M lines.
+pub(crate) fn storey_at(s: &[u8], i: usize, m: usize) -> Storey
+    requires { ⌜ (i ≤ 10) × (m ≤ 2000) × (place i m + 26 ≤ length (now s)) ⌝ }
+    ensures { λ r. ⌜ r ≡ storeyAt (now (s .entry)) (place i m) ⌝ }
+{
+    let f = read_fields(s, place_of(i, m), Tag::S);
+    let vs = f.values;
+    storey_of(vs)
+}
+
+// The member of the M line before which stand i S lines and m M lines.
+pub(crate) fn member_at(s: &[u8], i: usize, m: usize) -> Member
+    requires { ⌜ (i ≤ 10) × (m ≤ 2000) × (place i m + 210 ≤ length (now s)) ⌝ }
+    ensures { λ r. ⌜ r ≡ memberAt (now (s .entry)) (place i m) ⌝ }
+{
+    let f = read_fields(s, place_of(i, m), Tag::M);
+    let vs = f.values;
+    member_of(vs)
+}
+
+pub(crate) fn count_of(r: Storey) -> usize
+    ensures { λ n. ⌜ n ≡ r .count ⌝ }
+{
+    r.count as usize
 }

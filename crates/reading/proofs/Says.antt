@@ -1,0 +1,35 @@
+-- The contracts of the functions over rows, for their walks and for their callers' walks. Each is checked against the function's own
+-- clauses where the function is proved.
+use Prim.Native.Nat.{ℕ, _+_, _≤_}
+use mathlib.Core.List.{List, [], _∷_}
+use mathlib.Core.Path.{_≡_}
+use lib.ListN.{length}
+use mir.Syntax.{w8, w64}
+use denote.RattleType.{RattleType}
+use borrow.Fn.Kind.{PK, RK}
+use borrow.Fn.Kinds.{rNum, rUnit}
+use borrow.Kind.Num.{pNum}
+use borrow.Kind.ShrSlice.{pShrS}
+use borrow.Kind.MutSlice.{pMutS}
+use borrow.Table.Referent.{rtF, fInt}
+use Rattle.reading.specs.Lines.{memberAt}
+use Rattle.reading.specs.Survey.{place, placed}
+use Rattle.walk.proofs.Fn.{Plain}
+use Rattle.walk.proofs.Slice.{R, taken, made}
+use Rattle.reading.proofs.Structs.{member, storey}
+
+abbrev pub bytes : RattleType
+bytes = rtF (fInt w8)
+
+abbrev pub fill-members : Plain {n = 2} (pShrS bytes 0 tt ∷ pMutS (R member) 1 tt ∷ pNum w64 ∷ pNum w64 ∷ pNum w64 ∷ []) rUnit
+fill-members = record {
+  requires = λ κs a.
+      ((a .1 .1 .0 ≤ 9)
+      × (a .1 .1 .1 .0 + a .1 .1 .1 .1 .0 ≤ 2000)
+      × (place (a .1 .1 .0 + 1) (a .1 .1 .1 .0 + a .1 .1 .1 .1 .0) ≤ length (a .0 .now))
+      × (a .1 .1 .1 .0 + a .1 .1 .1 .1 .0 ≤ length (a .1 .0 .now)))
+      ∷ [];
+  ensures = λ κs a z e.
+      (e .1 .0 .now ≡ placed (λ (j : ℕ). memberAt (a .0 .now) (place (a .1 .1 .0 + 1) (a .1 .1 .1 .0 + j))) (a .1 .1 .1 .0) (a .1 .1 .1 .1 .0) (a .1 .0 .now))
+      ∷ [];
+}

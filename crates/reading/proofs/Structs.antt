@@ -1,0 +1,12 @@
+-- The crate's structs, for its walks.
+use Rattle.walk.proofs.Slice.{Str}
+use Rattle.reading.proofs.records.Member as M
+use Rattle.reading.proofs.records.Member.Laws as M′
+use Rattle.reading.proofs.records.Storey as T
+use Rattle.reading.proofs.records.Storey.Laws as T′
+
+abbrev pub member : Str
+member = record { T = M.the-type; laws = M′.the-laws; copies = M′.the-copy; plain = M′.the-plain }
+
+abbrev pub storey : Str
+storey = record { T = T.the-type; laws = T′.the-laws; copies = T′.the-copy; plain = T′.the-plain }
