@@ -13,3 +13,4 @@ pub mod Written
 pub mod Placed
 pub mod Says
 pub mod Structs
+pub mod Filling

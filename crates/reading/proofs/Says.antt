@@ -13,7 +13,8 @@ use borrow.Kind.ShrSlice.{pShrS}
 use borrow.Kind.MutSlice.{pMutS}
 use borrow.Table.Referent.{rtF, fInt}
 use Rattle.reading.specs.Lines.{memberAt}
-use Rattle.reading.specs.Survey.{place, placed}
+use Rattle.reading.specs.Survey.{place, membersBefore, storey as storeyOf, placed, filledMembers}
+use Rattle.reading.specs.Checks.{Fits}
 use Rattle.walk.proofs.Fn.{Plain}
 use Rattle.walk.proofs.Slice.{R, taken, made}
 use Rattle.reading.proofs.Structs.{member, storey}
@@ -32,4 +33,16 @@ fill-members = record {
   ensures = λ κs a z e.
       (e .1 .0 .now ≡ placed (λ (j : ℕ). memberAt (a .0 .now) (place (a .1 .1 .0 + 1) (a .1 .1 .1 .0 + j))) (a .1 .1 .1 .0) (a .1 .1 .1 .1 .0) (a .1 .0 .now))
       ∷ [];
+}
+
+abbrev pub fill-storeys : Plain {n = 2} (pShrS bytes 0 tt ∷ pMutS (R storey) 1 tt ∷ pNum w64 ∷ []) rUnit
+fill-storeys = record {
+  requires = λ κs a. (Fits (a .0 .now) (a .1 .1 .0) × (a .1 .1 .0 ≤ length (a .1 .0 .now))) ∷ [];
+  ensures = λ κs a z e. (e .1 .0 .now ≡ placed (storeyOf (a .0 .now)) 0 (a .1 .1 .0) (a .1 .0 .now)) ∷ [];
+}
+
+abbrev pub fill-all : Plain {n = 2} (pShrS bytes 0 tt ∷ pMutS (R member) 1 tt ∷ pNum w64 ∷ []) rUnit
+fill-all = record {
+  requires = λ κs a. (Fits (a .0 .now) (a .1 .1 .0) × (membersBefore (a .0 .now) (a .1 .1 .0) ≤ length (a .1 .0 .now))) ∷ [];
+  ensures = λ κs a z e. (e .1 .0 .now ≡ filledMembers (a .0 .now) (a .1 .1 .0) (a .1 .0 .now)) ∷ [];
 }

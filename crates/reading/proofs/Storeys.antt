@@ -36,11 +36,11 @@ pub record Turn (s : List ℕ) (rows i m count : ℕ) (numbers : List ℕ) (j : 
   pub turn : j ≤ count
   pub size : length numbers ≡ 200
   pub held : (e : ℕ) → e < j → getD numbers e 0 ≡ member s i e .number
-  pub clear : firstFault (λ k. at-line (lineNumber (suc i) (membersBefore s i + k)) (memberLine s rows i k)) j ≡ noFault
+  pub clear : firstFault (λ k. at-line (lineNumber (i + 1) (membersBefore s i + k)) (memberLine s rows i k)) j ≡ noFault
 
 module _ (s : List ℕ) (rows i m count : ℕ) where
   abbrev line : ℕ → Fault
-  line k = at-line (lineNumber (suc i) (membersBefore s i + k)) (memberLine s rows i k)
+  line k = at-line (lineNumber (i + 1) (membersBefore s i + k)) (memberLine s rows i k)
 
   pub turn-first : (numbers : List ℕ) → length numbers ≡ 200 → MembersDue s i m count → Turn s rows i m count numbers 0
   turn-first numbers z d = record { due = d; turn = omega arith; size = z; held = λ e l. absurd (not-suc-le-zero l); clear = first-none noFault (λ f. f .number) line }
@@ -74,7 +74,7 @@ module _ (s : List ℕ) (rows i m count : ℕ) where
     pub turn-stops : (n : ℕ) → (f ≡ 0 → ⊥) → n ≡ 3 + i + m + j → record { number = f; line = n } ≡ membersFault s rows i
     unfolding membersFault
     turn-stops n ne q =
-        let k : n ≡ lineNumber (suc i) (membersBefore s i + j) = omega (arith, u .due .before, q) in
+        let k : n ≡ lineNumber (i + 1) (membersBefore s i + j) = omega (arith, u .due .before, q) in
         let e : line j ≡ record { number = f; line = n } = rw (← fault-is, ne-eqb _ _ ne, k) in
         let g = next-is ∙ e in
         sym (rw (← u .due .held) (first-kept noFault (λ f. f .number) line (j + 1) count (omega arith) (λ z. ne (sym (ap (λ (g : Fault). g .number) g) ∙ z)) ∙ g))

@@ -1,12 +1,13 @@
 -- What the checks of a line answer: the first refusal but 5, and the record where there is none.
-use Prim.Native.Nat.{ℕ, _≤_, _<_}
+use Prim.Native.Nat.{ℕ, _+_, _≤_, _<_}
+use lib.ListN.{length}
 use mathlib.Core.Bool.{Bool}
 use mathlib.Core.List.{List, [], _∷_}
 use mathlib.Core.Path.{_≡_}
 use Rattle.reading.specs.First.{pick, inOrder}
 use Rattle.reading.specs.Records.{storeyFault, memberFault}
 use Rattle.reading.specs.Lines.{fieldsFault, headerAt, storeyAt, memberAt}
-use Rattle.reading.specs.Survey.{membersBefore, storey, shape, headerLine, or-else, firstFault, storeysFault, trailing}
+use Rattle.reading.specs.Survey.{place, membersBefore, storey, shape, headerLine, or-else, firstFault, storeysFault, trailing}
 use Rattle.reading.specs.declared.records.Tag.the-variants.{B, S, M}
 use Rattle.reading.specs.declared.survey.Fault.{Fault}
 use Rattle.reading.specs.declared.survey.HeaderLine.{HeaderLine}
@@ -44,3 +45,9 @@ pub record MembersDue (s : List ℕ) (i m count : ℕ) : Type 0 where
 pub record CheckedOf (s : List ℕ) (n srows mrows : ℕ) (r : Checked) : Type 0 where
   pub fault : record { number = r .number; line = r .line } ≡ or-else (firstFault (storeysFault s srows mrows) n) (trailing s n)
   pub members : r .number ≡ 0 → r .members ≡ membersBefore s n
+
+-- the lines of the first n storeys lie within the file, and their counts are small
+pub record Fits (s : List ℕ) (n : ℕ) : Type 0 where
+  pub storeys : n ≤ 10
+  pub counts : (i : ℕ) → i < n → storey s i .count ≤ 200
+  pub lines : (i : ℕ) → i < n → place (i + 1) (membersBefore s (i + 1)) ≤ length s

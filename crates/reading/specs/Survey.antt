@@ -34,7 +34,7 @@ abbrev pub storey : List ℕ → ℕ → Storey
 storey s i = storeyAt s (place i (membersBefore s i))
 
 abbrev pub memberPlace : List ℕ → ℕ → ℕ → ℕ
-memberPlace s i j = place (suc i) (membersBefore s i + j)
+memberPlace s i j = place (i + 1) (membersBefore s i + j)
 
 abbrev pub member : List ℕ → ℕ → ℕ → Member
 member s i j = memberAt s (memberPlace s i j)
@@ -83,7 +83,7 @@ firstFault = first noFault (λ f. f .number)
 -- "The earliest line wins": the first refusal of storey i's M lines, of its S line and these, and of the file
 unfoldable pub membersFault : List ℕ → ℕ → ℕ → Fault
 membersFault s rows i =
-    firstFault (λ j. at-line (lineNumber (suc i) (membersBefore s i + j)) (memberLine s rows i j)) (storey s i .count)
+    firstFault (λ j. at-line (lineNumber (i + 1) (membersBefore s i + j)) (memberLine s rows i j)) (storey s i .count)
 
 unfoldable pub storeysFault : List ℕ → ℕ → ℕ → ℕ → Fault
 storeysFault s srows mrows i =
@@ -129,3 +129,8 @@ survey s srows mrows =
 unfoldable pub placed : {A : Type 0} → (ℕ → A) → ℕ → ℕ → List A → List A
 placed f k zero rows = rows
 placed f k (suc n) rows = set (placed f k n rows) (k + n) (f n)
+
+-- the rows with the members of the first n storeys in front
+unfoldable pub filledMembers : List ℕ → ℕ → List Member → List Member
+filledMembers s zero rows = rows
+filledMembers s (suc i) rows = placed (member s i) (membersBefore s i) (storey s i .count) (filledMembers s i rows)

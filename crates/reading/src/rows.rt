@@ -3,10 +3,13 @@ ghost use mathlib.Core.Path.{_≡_};
 ghost use Prim.Native.Nat.{ℕ, _+_, _≤_};
 ghost use lib.ListN.{length};
 ghost use Rattle.reading.specs.Lines.{memberAt};
-ghost use Rattle.reading.specs.Survey.{place, placed};
+ghost use Rattle.reading.specs.Survey.{place, membersBefore, storey, placed, filledMembers};
+ghost use Rattle.reading.specs.Checks.{Fits};
 use crate::records::Member;
 use crate::records::Storey;
+use crate::survey::count_of;
 use crate::survey::member_at;
+use crate::survey::storey_at;
 
 // The members of storey i, before which stand m members.
 fn fill_members(s: &[u8], rows: &mut [Member], i: usize, m: usize, count: usize)
@@ -18,5 +21,35 @@ fn fill_members(s: &[u8], rows: &mut [Member], i: usize, m: usize, count: usize)
         let k = m + j;
         rows[k] = member_at(s, i + 1, k);
         j = j + 1;
+    }
+}
+
+// The first n storeys.
+fn fill_storeys(s: &[u8], rows: &mut [Storey], n: usize)
+    requires { ⌜ Fits (now s) n × (n ≤ length (now rows)) ⌝ }
+    ensures { λ _. ⌜ now (rows .exit) ≡ placed (storey (now (s .entry))) 0 n (now (rows .entry)) ⌝ }
+{
+    let mut before = 0;
+    let mut i = 0;
+    while i < n {
+        let r = storey_at(s, i, before);
+        rows[i] = r;
+        before = before + count_of(r);
+        i = i + 1;
+    }
+}
+
+// The members of the first n storeys.
+fn fill_all(s: &[u8], rows: &mut [Member], n: usize)
+    requires { ⌜ Fits (now s) n × (membersBefore (now s) n ≤ length (now rows)) ⌝ }
+    ensures { λ _. ⌜ now (rows .exit) ≡ filledMembers (now (s .entry)) n (now (rows .entry)) ⌝ }
+{
+    let mut before = 0;
+    let mut i = 0;
+    while i < n {
+        let count = count_of(storey_at(s, i, before));
+        fill_members(s, rows, i, before, count);
+        before = before + count;
+        i = i + 1;
     }
 }
