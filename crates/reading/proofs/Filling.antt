@@ -13,7 +13,7 @@ use Rattle.reading.specs.Checks.{Fits}
 use Rattle.reading.specs.declared.records.Storey.{Storey}
 use Rattle.reading.specs.declared.records.Member.{Member}
 
-before-suc : (s : List ℕ) (i : ℕ) → membersBefore s (i + 1) ≡ membersBefore s i + storey s i .count
+pub before-suc : (s : List ℕ) (i : ℕ) → membersBefore s (i + 1) ≡ membersBefore s i + storey s i .count
 unfolding membersBefore
 before-suc s i = rw add-one
 

@@ -58,3 +58,16 @@ pick-clear (suc x) y e = simp eqb·suc-zero at e
 pub pick-both : (x y : ℕ) → pick (eqb x 0) y x ≡ 0 → y ≡ 0
 pick-both zero y e = e
 pick-both (suc x) y e = let z : ⊥ = omega (arith, simp eqb·suc-zero at e) in absurd z
+
+-- where a choice by a refusal is none, both are
+pub step-clear : {A : Type 0} (number : A → ℕ) (t : Bool) (a b : A) → eqb (number b) 0 ≡ t → number (pick t a b) ≡ 0 → (number a ≡ 0) × (number b ≡ 0)
+step-clear number true a b e h = (h, eqb-true (number b) 0 e)
+step-clear number false a b e h = absurd (eqb-false (number b) 0 e h)
+
+-- where the first refusal is none, none of them is one
+pub first-clear : {A : Type 0} (nil : A) (number : A → ℕ) (f : ℕ → A) (n j : ℕ) → number (first nil number f n) ≡ 0 → j < n → number (f j) ≡ 0
+unfolding first
+first-clear nil number f zero j e h = absurd (not-suc-le-zero h)
+first-clear nil number f (suc n) j e h =
+    let c = step-clear number (eqb (number (first nil number f n)) 0) (f n) (first nil number f n) refl e in
+    ⊎-elim (λ (q : j ≡ n). rw q (c .0)) (λ (l : j < n). first-clear nil number f n j (c .1) l) (eq-or-lt-of-le (le-of-suc-le-suc h))

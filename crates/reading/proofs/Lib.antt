@@ -14,3 +14,4 @@ pub mod Placed
 pub mod Says
 pub mod Structs
 pub mod Filling
+pub mod Accepted

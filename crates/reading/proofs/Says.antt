@@ -13,11 +13,12 @@ use borrow.Kind.ShrSlice.{pShrS}
 use borrow.Kind.MutSlice.{pMutS}
 use borrow.Table.Referent.{rtF, fInt}
 use Rattle.reading.specs.Lines.{memberAt}
-use Rattle.reading.specs.Survey.{place, membersBefore, storey as storeyOf, placed, filledMembers}
+use Rattle.reading.specs.Survey.{place, membersBefore, storey as storeyOf, placed, filledMembers, survey}
+use Rattle.reading.specs.Answer.{tells, told, storeysAfter, membersAfter}
 use Rattle.reading.specs.Checks.{Fits}
 use Rattle.walk.proofs.Fn.{Plain}
 use Rattle.walk.proofs.Slice.{R, taken, made}
-use Rattle.reading.proofs.Structs.{member, storey}
+use Rattle.reading.proofs.Structs.{member, storey, reading}
 
 abbrev pub bytes : RattleType
 bytes = rtF (fInt w8)
@@ -45,4 +46,14 @@ abbrev pub fill-all : Plain {n = 2} (pShrS bytes 0 tt ∷ pMutS (R member) 1 tt 
 fill-all = record {
   requires = λ κs a. (Fits (a .0 .now) (a .1 .1 .0) × (membersBefore (a .0 .now) (a .1 .1 .0) ≤ length (a .1 .0 .now))) ∷ [];
   ensures = λ κs a z e. (e .1 .0 .now ≡ filledMembers (a .0 .now) (a .1 .1 .0) (a .1 .0 .now)) ∷ [];
+}
+
+abbrev pub read : Plain {n = 3} (pShrS bytes 0 tt ∷ pMutS (R storey) 1 tt ∷ pMutS (R member) 2 tt ∷ []) (made reading)
+read = record {
+  requires = λ κs a. [];
+  ensures = λ κs a z e.
+      (tells (z .answer) ≡ told (survey (a .0 .now) (length (a .1 .0 .now)) (length (a .1 .1 .0 .now))))
+      ∷ (e .1 .0 .now ≡ storeysAfter (survey (a .0 .now) (length (a .1 .0 .now)) (length (a .1 .1 .0 .now))) (a .1 .0 .now))
+      ∷ (e .1 .1 .0 .now ≡ membersAfter (survey (a .0 .now) (length (a .1 .0 .now)) (length (a .1 .1 .0 .now))) (a .1 .1 .0 .now))
+      ∷ [];
 }

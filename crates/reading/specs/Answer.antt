@@ -46,3 +46,8 @@ storeysAfter (refused n line) rows = rows
 abbrev pub membersAfter : Outcome → List Member → List Member
 membersAfter (accepted h ss ms) rows = ms ++ drop (length ms) rows
 membersAfter (refused n line) rows = rows
+
+-- how many storey rows an answer says were filled
+abbrev pub storeysTold : Told → ℕ
+storeysTold (filled h storeys members) = storeys
+storeysTold (refusal n line) = 0

@@ -4,12 +4,17 @@ ghost use Prim.Native.Nat.{ℕ, _+_, _≤_};
 ghost use lib.ListN.{length};
 ghost use Rattle.reading.specs.Lines.{memberAt};
 ghost use Rattle.reading.specs.Survey.{place, membersBefore, storey, placed, filledMembers};
+ghost use Rattle.reading.specs.Survey.{survey};
+ghost use Rattle.reading.specs.Answer.{tells, told, storeysAfter, membersAfter};
 ghost use Rattle.reading.specs.Checks.{Fits};
 use crate::records::Member;
 use crate::records::Storey;
+use crate::survey::Reading;
+use crate::survey::check;
 use crate::survey::count_of;
 use crate::survey::member_at;
 use crate::survey::storey_at;
+use crate::survey::storeys_read;
 
 // The members of storey i, before which stand m members.
 fn fill_members(s: &[u8], rows: &mut [Member], i: usize, m: usize, count: usize)
@@ -52,4 +57,17 @@ fn fill_all(s: &[u8], rows: &mut [Member], n: usize)
         before = before + count;
         i = i + 1;
     }
+}
+
+// The reading call: the bytes of a file, and rows lent for its storeys and members. An accepted file fills the rows from the front.
+pub fn read(s: &[u8], storeys: &mut [Storey], members: &mut [Member]) -> Reading
+    ensures { λ r. ⌜ tells (r .answer) ≡ told (survey (now (s .entry)) (length (now (storeys .entry))) (length (now (members .entry)))) ⌝ }
+    ensures { λ _. ⌜ now (storeys .exit) ≡ storeysAfter (survey (now (s .entry)) (length (now (storeys .entry))) (length (now (members .entry)))) (now (storeys .entry)) ⌝ }
+    ensures { λ _. ⌜ now (members .exit) ≡ membersAfter (survey (now (s .entry)) (length (now (storeys .entry))) (length (now (members .entry)))) (now (members .entry)) ⌝ }
+{
+    let r = check(s, storeys.len(), members.len());
+    let n = storeys_read(r);
+    fill_storeys(s, storeys, n);
+    fill_all(s, members, n);
+    r
 }

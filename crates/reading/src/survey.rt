@@ -8,7 +8,7 @@ ghost use Rattle.reading.specs.First.{pick, any, inOrder};
 ghost use Rattle.reading.specs.Checks.{HeaderLineOf, StoreyLineOf, MemberLineOf, MembersDue, CheckedOf};
 ghost use Rattle.reading.specs.Survey.{place, membersBefore, storey, membersFault, survey};
 ghost use Rattle.reading.specs.Lines.{storeyAt, memberAt};
-ghost use Rattle.reading.specs.Answer.{tells, told};
+ghost use Rattle.reading.specs.Answer.{tells, told, storeysTold};
 use crate::lines::Fields;
 use crate::lines::earlier;
 use crate::lines::header_of;
@@ -302,4 +302,22 @@ pub(crate) fn count_of(r: Storey) -> usize
     ensures { λ n. ⌜ n ≡ r .count ⌝ }
 {
     r.count as usize
+}
+
+// How many S lines an accepted file has; 0 of a refused one.
+pub(crate) fn storeys_read(r: Reading) -> usize
+    ensures { λ n. ⌜ n ≡ storeysTold (tells (r .answer)) ⌝ }
+{
+    let a = r.answer;
+    match a {
+        ReadAnswer::Accepted {
+            header: _,
+            storeys,
+            members: _,
+        } => storeys,
+        ReadAnswer::Refused {
+            refusal: _,
+            line: _,
+        } => 0,
+    }
 }
