@@ -1,6 +1,7 @@
 // The records of a survey, shared by every layer. Every field is a number, in the unit that document 01 gives it.
 
 // The B line.
+#[repr(C)]
 pub struct Header {
     // knowledge level k, hundredths
     pub knowledge: u64,
@@ -16,6 +17,7 @@ pub struct Header {
 }
 
 // The S line.
+#[repr(C)]
 pub struct Storey {
     pub number: u64,
     // storey shear, 0.1 kN
@@ -25,6 +27,7 @@ pub struct Storey {
 }
 
 // The M line: a column or a wall. Forces are in 0.1 kN, moments in 0.1 kNm, lengths in mm.
+#[repr(C)]
 pub struct Member {
     pub number: u64,
     pub long: u64,
@@ -60,6 +63,7 @@ pub struct Member {
 }
 
 // What one load case brings to a member.
+#[repr(C)]
 pub struct LoadCase {
     // N_K, counted from -1,000,000
     pub nk: u64,

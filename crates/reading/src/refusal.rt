@@ -60,3 +60,21 @@ pub(crate) fn refusal_of(number: u64) -> Refusal
     }
     Refusal::Shear
 }
+
+// The number of a refusal.
+pub fn number(r: Refusal) -> u64
+    ensures { λ n. ⌜ n ≡ numberOfRefusal r ⌝ }
+{
+    match r {
+        Refusal::Line => 1,
+        Refusal::Spelling => 2,
+        Refusal::Range => 3,
+        Refusal::Sides => 4,
+        Refusal::Repeated => 5,
+        Refusal::Trailing => 6,
+        Refusal::Scope => 7,
+        Refusal::Rows => 8,
+        Refusal::Buffer => 9,
+        Refusal::Shear => 10,
+    }
+}

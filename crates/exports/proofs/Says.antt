@@ -1,0 +1,32 @@
+-- The contracts of the functions over rows, for their walks. Each is checked against the function's own clauses where the function is proved.
+use mathlib.Core.List.{List, [], _∷_}
+use mathlib.Core.Path.{_≡_}
+use lib.ListN.{length}
+use mir.Syntax.{w8, w64}
+use denote.RattleType.{RattleType}
+use borrow.Fn.Kinds.{rUnit}
+use borrow.Kind.ShrSlice.{pShrS}
+use borrow.Kind.MutSlice.{pMutS}
+use borrow.Table.Referent.{rtF, fInt}
+use Rattle.reading.specs.Survey.{survey}
+use Rattle.reading.specs.Answer.{told, storeysAfter, membersAfter}
+use Rattle.walk.proofs.Fn.{Plain}
+use Rattle.walk.proofs.Slice.{R}
+use Rattle.reading.proofs.Structs.{member, storey}
+use Rattle.exports.specs.Words.{words as wordsOf, put}
+
+abbrev pub bytes : RattleType
+bytes = rtF (fInt w8)
+
+abbrev pub words : RattleType
+words = rtF (fInt w64)
+
+abbrev pub llunareth-read : Plain {n = 4} (pShrS bytes 0 tt ∷ pMutS (R storey) 1 tt ∷ pMutS (R member) 2 tt ∷ pMutS words 3 tt ∷ []) rUnit
+llunareth-read = record {
+  requires = λ κs a. [];
+  ensures = λ κs a z e.
+      (e .1 .1 .1 .0 .now ≡ put (wordsOf (told (survey (a .0 .now) (length (a .1 .0 .now)) (length (a .1 .1 .0 .now))))) (a .1 .1 .1 .0 .now))
+      ∷ (e .1 .0 .now ≡ storeysAfter (survey (a .0 .now) (length (a .1 .0 .now)) (length (a .1 .1 .0 .now))) (a .1 .0 .now))
+      ∷ (e .1 .1 .0 .now ≡ membersAfter (survey (a .0 .now) (length (a .1 .0 .now)) (length (a .1 .1 .0 .now))) (a .1 .1 .0 .now))
+      ∷ [];
+}

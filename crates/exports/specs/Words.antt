@@ -1,0 +1,27 @@
+-- The answer of the reading call as numbers, for other languages.
+use Prim.Native.Nat.{ℕ}
+use mathlib.Core.List.{List, [], _∷_, _++_}
+use lib.Dec.{leb}
+use lib.ListN.{length, drop}
+use Rattle.reading.specs.First.{pick}
+use Rattle.reading.specs.Answer.{Told, filled, refusal}
+
+-- refusal and line, 0 and 0 where accepted; the header's six fields; the numbers of storey and member rows filled
+abbrev pub words : Told → List ℕ
+words (filled h storeys members) =
+    0
+    ∷ 0
+    ∷ h .knowledge
+    ∷ h .height
+    ∷ h .storeys
+    ∷ h .tilt1
+    ∷ h .tilt2
+    ∷ h .count
+    ∷ storeys
+    ∷ members
+    ∷ []
+words (refusal number line) = number ∷ line ∷ 0 ∷ 0 ∷ 0 ∷ 0 ∷ 0 ∷ 0 ∷ 0 ∷ 0 ∷ []
+
+-- a buffer with some words in front; as it was where they do not fit
+abbrev pub put : List ℕ → List ℕ → List ℕ
+put ws buffer = pick (leb (length ws) (length buffer)) (ws ++ drop (length ws) buffer) buffer

@@ -1,0 +1,2 @@
+// Calls for programs in other languages: numbers and slices in, numbers and slices out.
+pub mod reading_call;
