@@ -31,13 +31,13 @@ shaped-fits t s at e =
     omega (arith, length-drop at s)
 
 -- ---- the record of a line, from the numbers read
-header-same : (f g : ℕ → ℕ) → ((j : ℕ) → j < 6 → f j ≡ g j) → headerBy f ≡ headerBy g
+pub header-same : (f g : ℕ → ℕ) → ((j : ℕ) → j < 6 → f j ≡ g j) → headerBy f ≡ headerBy g
 header-same f g h = rw (h 0 (omega arith), h 1 (omega arith), h 2 (omega arith), h 3 (omega arith), h 4 (omega arith), h 5 (omega arith))
 
-storey-same : (f g : ℕ → ℕ) → ((j : ℕ) → j < 3 → f j ≡ g j) → storeyBy f ≡ storeyBy g
+pub storey-same : (f g : ℕ → ℕ) → ((j : ℕ) → j < 3 → f j ≡ g j) → storeyBy f ≡ storeyBy g
 storey-same f g h = rw (h 0 (omega arith), h 1 (omega arith), h 2 (omega arith))
 
-member-same : (f g : ℕ → ℕ) → ((j : ℕ) → j < 26 → f j ≡ g j) → memberBy f ≡ memberBy g
+pub member-same : (f g : ℕ → ℕ) → ((j : ℕ) → j < 26 → f j ≡ g j) → memberBy f ≡ memberBy g
 member-same f g h =
     rw
     (h 0 (omega arith), h 1 (omega arith), h 2 (omega arith), h 3 (omega arith), h 4 (omega arith), h 5 (omega arith), h 6 (omega arith),

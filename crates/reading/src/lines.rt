@@ -136,7 +136,7 @@ pub(crate) fn read_fields(s: &[u8], at: usize, tag: Tag) -> Fields
     Fields { fault, values }
 }
 
-pub(crate) fn header_of(vs: [u64; 26]) -> Header
+pub fn header_of(vs: [u64; 26]) -> Header
     ensures { λ r. ⌜ r ≡ headerBy (λ (j : ℕ). getD vs j 0) ⌝ }
 {
     Header {
@@ -149,7 +149,7 @@ pub(crate) fn header_of(vs: [u64; 26]) -> Header
     }
 }
 
-pub(crate) fn storey_of(vs: [u64; 26]) -> Storey
+pub fn storey_of(vs: [u64; 26]) -> Storey
     ensures { λ r. ⌜ r ≡ storeyBy (λ (j : ℕ). getD vs j 0) ⌝ }
 {
     Storey {
@@ -159,7 +159,7 @@ pub(crate) fn storey_of(vs: [u64; 26]) -> Storey
     }
 }
 
-pub(crate) fn member_of(vs: [u64; 26]) -> Member
+pub fn member_of(vs: [u64; 26]) -> Member
     ensures { λ r. ⌜ r ≡ memberBy (λ (j : ℕ). getD vs j 0) ⌝ }
 {
     let case = LoadCase {
