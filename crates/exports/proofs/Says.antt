@@ -1,5 +1,5 @@
 -- The contracts of the functions over rows, for their walks. Each is checked against the function's own clauses where the function is proved.
-use mathlib.Core.List.{List, [], _∷_}
+use mathlib.Core.List.{[], _∷_}
 use mathlib.Core.Path.{_≡_}
 use lib.ListN.{length}
 use mir.Syntax.{w8, w64}

@@ -31,7 +31,18 @@ fn words_of(r: Reading) -> [u64; 10]
             storeys as u64,
             members as u64,
         ],
-        ReadAnswer::Refused { refusal, line } => [reading::refusal::number(refusal), line, 0, 0, 0, 0, 0, 0, 0, 0],
+        ReadAnswer::Refused { refusal, line } => [
+            reading::refusal::number(refusal),
+            line,
+            0,
+            0,
+            0,
+            0,
+            0,
+            0,
+            0,
+            0,
+        ],
     }
 }
 
@@ -52,7 +63,12 @@ fn put_words(out: &mut [u64], r: Reading)
 
 // Reads a file into lent rows, and puts the ten numbers into `out`.
 #[no_mangle]
-pub extern "C" fn llunareth_read(s: &[u8], storeys: &mut [Storey], members: &mut [Member], out: &mut [u64])
+pub extern "C" fn llunareth_read(
+    s: &[u8],
+    storeys: &mut [Storey],
+    members: &mut [Member],
+    out: &mut [u64],
+)
     ensures { λ _. ⌜ now (out .exit) ≡ put (words (told (survey (now (s .entry)) (length (now (storeys .entry))) (length (now (members .entry)))))) (now (out .entry)) ⌝ }
     ensures { λ _. ⌜ now (storeys .exit) ≡ storeysAfter (survey (now (s .entry)) (length (now (storeys .entry))) (length (now (members .entry)))) (now (storeys .entry)) ⌝ }
     ensures { λ _. ⌜ now (members .exit) ≡ membersAfter (survey (now (s .entry)) (length (now (storeys .entry))) (length (now (members .entry)))) (now (members .entry)) ⌝ }

@@ -1,30 +1,28 @@
 -- What an accepted file has: lines within the file, small counts, a row for each record; and the rows after it was read.
-use Prim.Native.Nat.{ℕ, zero, suc, _+_, _*_, _-_, _≤_, _<_}
+use Prim.Native.Nat.{ℕ, zero, suc, _+_, _-_, _≤_, _<_}
 use native.Mathlib.Omega.{arith}
-use native.Mathlib.Nat.{le-refl}
 use native.Mathlib.Numerals.{add-one}
 use mathlib.Core.Bool.{Bool, true, false}
 use mathlib.Core.List.{List, [], _∷_, _++_, append-assoc, append-nil}
-use mathlib.Core.Path.{_≡_, refl, ap, sym, _∙_}
+use mathlib.Core.Path.{_≡_, refl, sym, _∙_}
 use lib.Dec.{ltb, eqb, eqb·suc-zero}
-use lib.ListN.{length, take, drop, set, getD, length-append, length-drop, length-take, take-append-drop, length-set}
-use lib.Seq.{drop-cons, set-at, take-at, drop-at, drop-drop, take-append-le, drop-append-add, length-take-le}
+use lib.ListN.{length, take, drop, getD, length-append, length-drop, take-append-drop}
+use lib.Seq.{drop-cons, set-at, take-at, drop-drop, drop-append-add, length-take-le}
 use borrow.Author.Tests.{eqb-true, ltb-true}
 use Rattle.reading.specs.First.{pick, inOrder}
-use Rattle.reading.specs.Records.{fields, storeyFault, memberFault}
+use Rattle.reading.specs.Records.{storeyFault, memberFault}
 use Rattle.reading.specs.Lines.{shaped, fieldsFault, headerAt}
-use Rattle.reading.specs.Survey.{place, lineNumber, membersBefore, storey, memberPlace, member, shape, unheld, repeated, headerLine, storeyLine, memberLine, noFault, at-line, or-else, firstFault, membersFault, storeysFault, trailing, surveyFault, listed, storeysOf, membersOf, survey, placed, filledMembers}
+use Rattle.reading.specs.Survey.{place, lineNumber, membersBefore, storey, memberPlace, member, shape, unheld, repeated, headerLine, storeyLine, memberLine, noFault, at-line, firstFault, membersFault, storeysFault, trailing, surveyFault, listed, membersOf, survey, placed, filledMembers}
 use Rattle.reading.specs.Checks.{Fits}
 use Rattle.reading.specs.Answer.{told, storeysTold, storeysAfter, membersAfter}
 use Rattle.reading.specs.declared.records.Storey.{Storey}
 use Rattle.reading.specs.declared.records.Member.{Member}
-use Rattle.reading.specs.declared.records.Tag.{Tag}
 use Rattle.reading.specs.declared.records.Tag.the-variants.{S, M}
 use Rattle.reading.specs.declared.survey.Fault.{Fault}
 use Rattle.reading.proofs.Firsts.{pick-clear, pick-both, step-clear, first-clear}
 use Rattle.reading.proofs.Held.{shaped-fits}
 use Rattle.reading.proofs.Files.{count-most}
-use Rattle.reading.proofs.Filling.{before-suc, before-rises}
+use Rattle.reading.proofs.Filling.{before-suc}
 use Rattle.reading.proofs.Numbers.{length-listed, length-members, ten-storeys}
 
 -- ---- a line without a refusal

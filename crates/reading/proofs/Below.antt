@@ -1,11 +1,11 @@
 -- Laws of `every` and `any`: tests over the numbers below a bound.
-use Prim.Native.Nat.{ℕ, zero, suc, _+_, _≤_, _<_}
+use Prim.Native.Nat.{ℕ, zero, suc, _+_, _<_}
 use native.Mathlib.Omega.{arith}
 use native.Mathlib.Nat.{not-suc-le-zero, eq-or-lt-of-le, le-of-suc-le-suc}
 use native.Mathlib.Numerals.{add-one}
-use mathlib.Core.Bool.{Bool, true, false, _&&_, _||_, and-false, or-true}
+use mathlib.Core.Bool.{Bool, true, false, _&&_, and-false, or-true}
 use mathlib.Core.Logic.{⊎-elim}
-use mathlib.Core.Path.{_≡_, refl, ap, sym, _∙_}
+use mathlib.Core.Path.{_≡_, refl}
 use Rattle.reading.specs.First.{every, any}
 
 pub and-left : (a b : Bool) → (a && b) ≡ true → a ≡ true

@@ -1,10 +1,8 @@
 -- The loop that reads a line's fields: what holds after j of them, and one turn.
 use Prim.Native.Nat.{ℕ, zero, suc, _+_, _*_, _≤_, _<_}
 use native.Mathlib.Omega.{arith}
-use native.Mathlib.Nat.{not-suc-le-zero, le-of-suc-le-suc}
-use mathlib.Core.Bool.{Bool, true, false}
-use mathlib.Core.List.{List, [], _∷_}
-use mathlib.Core.Logic.{_≢_}
+use native.Mathlib.Nat.{not-suc-le-zero}
+use mathlib.Core.List.{List}
 use mathlib.Core.Option.{Option, some, none}
 use mathlib.Core.Path.{_≡_, refl, ap, sym, _∙_}
 use lib.Dec.{eqb}
@@ -12,7 +10,7 @@ use lib.ListN.{length, take, drop, getD, set, length-set}
 use lib.Seq.{getD-set-same, getD-set-other}
 use borrow.Author.Count.{below-more}
 use Rattle.reading.specs.First.{pick, first}
-use Rattle.reading.specs.Records.{Allowed, never, ranges, fields}
+use Rattle.reading.specs.Records.{never, ranges, fields}
 use Rattle.reading.specs.Spelling.{fieldOf}
 use Rattle.reading.specs.Field.{fieldStep, numberOf, nextOf, optionOf}
 use Rattle.reading.specs.Lines.{isForce, fieldAt, numberIn, valueAt, faultIn, fieldFault}

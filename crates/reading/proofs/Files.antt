@@ -1,9 +1,9 @@
 -- The loop over the S lines: what holds after i of them, and one turn.
-use Prim.Native.Nat.{ℕ, zero, suc, _+_, _*_, _-_, _≤_, _<_}
+use Prim.Native.Nat.{ℕ, _+_, _*_, _-_, _≤_, _<_}
 use native.Mathlib.Omega.{arith}
 use native.Mathlib.Nat.{not-suc-le-zero}
 use native.Mathlib.Numerals.{add-one}
-use mathlib.Core.Bool.{Bool, true, false, _&&_}
+use mathlib.Core.Bool.{Bool}
 use mathlib.Core.List.{List, [], _∷_}
 use mathlib.Core.Path.{_≡_, refl, ap, sym, _∙_}
 use lib.Dec.{leb, ltb, eqb}
@@ -11,16 +11,15 @@ use lib.ListN.{length, getD, set, length-set}
 use lib.Seq.{getD-set-same, getD-set-other}
 use borrow.Author.Count.{below-more}
 use borrow.Author.Tests.{eq-eqb, ne-eqb, lt-ltb, le-ltb, leb-true}
-use Rattle.reading.specs.First.{pick, any, every, inOrder, first}
+use Rattle.reading.specs.First.{pick, any, every, inOrder}
 use Rattle.reading.specs.Records.{inRange, storeyValues, storeyFault}
-use Rattle.reading.specs.Lines.{fieldsFault, storeyAt}
-use Rattle.reading.specs.Survey.{place, lineNumber, membersBefore, storey, shape, unheld, repeated, storeyLine, noFault, at-line, or-else, firstFault, membersFault, storeysFault, trailing}
+use Rattle.reading.specs.Lines.{fieldsFault}
+use Rattle.reading.specs.Survey.{place, lineNumber, membersBefore, storey, shape, unheld, repeated, storeyLine, noFault, or-else, firstFault, membersFault, storeysFault, trailing}
 use Rattle.reading.specs.Checks.{storeyFirst, StoreyLineOf, MembersDue, CheckedOf}
 use Rattle.reading.specs.declared.records.Storey.{Storey}
 use Rattle.reading.specs.declared.records.Tag.the-variants.{S}
 use Rattle.reading.specs.declared.survey.Fault.{Fault}
 use Rattle.reading.specs.declared.survey.StoreyLine.{StoreyLine}
-use Rattle.reading.specs.declared.survey.Checked.{Checked}
 use Rattle.reading.proofs.Below.{and-right, every-at}
 use Rattle.reading.proofs.Firsts.{first-none, first-next, first-kept, in-order-last, pick-clear, pick-both}
 use Rattle.reading.proofs.Storeys.{any-same, by-first}
@@ -57,7 +56,7 @@ module _ (s : List ℕ) (n srows mrows : ℕ) where
       }
 
   module _ (numbers : List ℕ) (i m : ℕ) (u : Begun s n srows mrows numbers i m) (h : i < n) (at : ℕ) (l : StoreyLine) (at-is : at ≡ place i m) (o : StoreyLineOf s at (ltb i srows) l) (x f : ℕ)
-    (xi : x ≡ pick (any (λ (e : ℕ). eqb (getD numbers e 0) (l .storey .number)) i) 5 0) (fi : f ≡ pick (eqb (l .fault) 0) x (l .fault)) where
+      (xi : x ≡ pick (any (λ (e : ℕ). eqb (getD numbers e 0) (l .storey .number)) i) 5 0) (fi : f ≡ pick (eqb (l .fault) 0) x (l .fault)) where
     place-is : at ≡ place i (membersBefore s i)
     place-is = omega (arith, u .before, at-is)
 
@@ -72,12 +71,12 @@ module _ (s : List ℕ) (n srows mrows : ℕ) where
     fault-is =
         fi
         ∙ by-first (l .fault) x (repeated (λ e. storey s e .number) i)
-            (λ z. xi ∙ ap (λ (t : Bool). pick t 5 0) (any-same _ _ i (λ e g. rw (u .held e g, storey-is z))))
+        (λ z. xi ∙ ap (λ (t : Bool). pick t 5 0) (any-same _ _ i (λ e g. rw (u .held e g, storey-is z))))
         ∙ rw first-is
-            (sym
-            (in-order-last
-            (shape S s (place i (membersBefore s i)) ∷ unheld i srows ∷ fieldsFault S s (place i (membersBefore s i)) ∷ storeyFault (storey s i) ∷ [])
-            (repeated (λ e. storey s e .number) i)))
+        (sym
+        (in-order-last
+        (shape S s (place i (membersBefore s i)) ∷ unheld i srows ∷ fieldsFault S s (place i (membersBefore s i)) ∷ storeyFault (storey s i) ∷ [])
+        (repeated (λ e. storey s e .number) i)))
 
     next-is : firstFault (storeysFault s srows mrows) (i + 1) ≡ storeysFault s srows mrows i
     next-is = first-next noFault (λ f. f .number) (storeysFault s srows mrows) i (u .clear)
@@ -106,7 +105,7 @@ module _ (s : List ℕ) (n srows mrows : ℕ) where
       is-due count e =
           let st = storey-is good in
           let v = pick-both (inOrder (shape S s (place i (membersBefore s i)) ∷ unheld i srows ∷ fieldsFault S s (place i (membersBefore s i)) ∷ [])) (storeyFault (storey s i))
-                (sym (in-order-last (shape S s (place i (membersBefore s i)) ∷ unheld i srows ∷ fieldsFault S s (place i (membersBefore s i)) ∷ []) (storeyFault (storey s i))) ∙ sym first-is ∙ good) in
+          (sym (in-order-last (shape S s (place i (membersBefore s i)) ∷ unheld i srows ∷ fieldsFault S s (place i (membersBefore s i)) ∷ []) (storeyFault (storey s i))) ∙ sym first-is ∙ good) in
           let q : count ≡ storey s i .count = e ∙ ap (λ (b : Storey). b .count) st in
           record {
             storeys = omega (arith, u .storeys);

@@ -5,7 +5,7 @@ use native.Mathlib.Nat.{not-suc-le-zero, eq-or-lt-of-le, le-of-suc-le-suc}
 use native.Mathlib.Numerals.{add-one}
 use mathlib.Core.Bool.{Bool, true, false}
 use mathlib.Core.Logic.{⊎-elim}
-use mathlib.Core.Path.{_≡_, refl, ap, sym, _∙_}
+use mathlib.Core.Path.{_≡_, refl}
 use lib.Dec.{eqb, eqb·suc-zero}
 use borrow.Author.Tests.{eq-eqb, ne-eqb, eqb-true, eqb-false}
 use mathlib.Core.List.{List, [], _∷_, _++_}

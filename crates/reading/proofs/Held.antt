@@ -1,25 +1,25 @@
 -- What a line of the expected shape holds, and its first refusal.
-use Prim.Native.Nat.{ℕ, zero, suc, _+_, _*_, _-_, _≤_, _<_}
+use Prim.Native.Nat.{ℕ, _+_, _*_, _-_, _≤_, _<_}
 use native.Mathlib.Omega.{arith}
-use mathlib.Core.Bool.{Bool, true, false, _&&_}
-use mathlib.Core.List.{List, [], _∷_}
-use mathlib.Core.Path.{_≡_, refl, ap, sym, _∙_}
-use lib.Dec.{ltb, eqb}
+use mathlib.Core.Bool.{Bool, true, false}
+use mathlib.Core.List.{List}
+use mathlib.Core.Path.{_≡_, ap, _∙_}
+use lib.Dec.{eqb}
 use lib.ListN.{length, drop, getD, length-drop}
-use borrow.Author.Tests.{eqb-true, eq-eqb, ne-eqb, ltb-true}
-use Rattle.reading.specs.First.{pick, inOrder}
+use borrow.Author.Tests.{ltb-true}
+use Rattle.reading.specs.First.{pick}
 use Rattle.reading.specs.Records.{fields, headerFault, storeyFault, memberFault}
-use Rattle.reading.specs.Lines.{tagByte, lineEnd, shaped, valueAt, fieldsFault, headerBy, storeyBy, memberBy, headerAt, storeyAt, memberAt}
+use Rattle.reading.specs.Lines.{tagByte, lineEnd, shaped, valueAt, headerBy, storeyBy, memberBy, headerAt, storeyAt, memberAt}
 use Rattle.reading.specs.Field.{FieldsOf}
 use Rattle.reading.specs.Survey.{shape, headerLine}
-use Rattle.reading.specs.Checks.{storeyFirst, memberFirst, HeaderLineOf, StoreyLineOf, MemberLineOf}
+use Rattle.reading.specs.Checks.{HeaderLineOf, StoreyLineOf, MemberLineOf}
 use Rattle.reading.specs.declared.records.Header.{Header}
 use Rattle.reading.specs.declared.records.Storey.{Storey}
 use Rattle.reading.specs.declared.records.Member.{Member}
 use Rattle.reading.specs.declared.records.Tag.{Tag}
 use Rattle.reading.specs.declared.records.Tag.the-variants.{B, S, M}
 use Rattle.reading.specs.declared.lines.Fields.{Fields}
-use Rattle.reading.proofs.Below.{and-left, and-right}
+use Rattle.reading.proofs.Below.{and-right}
 use Rattle.reading.proofs.Firsts.{last-of}
 
 -- a line of the expected shape lies within the file
@@ -39,11 +39,34 @@ storey-same f g h = rw (h 0 (omega arith), h 1 (omega arith), h 2 (omega arith))
 
 pub member-same : (f g : ℕ → ℕ) → ((j : ℕ) → j < 26 → f j ≡ g j) → memberBy f ≡ memberBy g
 member-same f g h =
-    rw
-    (h 0 (omega arith), h 1 (omega arith), h 2 (omega arith), h 3 (omega arith), h 4 (omega arith), h 5 (omega arith), h 6 (omega arith),
-    h 7 (omega arith), h 8 (omega arith), h 9 (omega arith), h 10 (omega arith), h 11 (omega arith), h 12 (omega arith), h 13 (omega arith),
-    h 14 (omega arith), h 15 (omega arith), h 16 (omega arith), h 17 (omega arith), h 18 (omega arith), h 19 (omega arith), h 20 (omega arith),
-    h 21 (omega arith), h 22 (omega arith), h 23 (omega arith), h 24 (omega arith), h 25 (omega arith))
+    rw (
+      h 0 (omega arith),
+      h 1 (omega arith),
+      h 2 (omega arith),
+      h 3 (omega arith),
+      h 4 (omega arith),
+      h 5 (omega arith),
+      h 6 (omega arith),
+      h 7 (omega arith),
+      h 8 (omega arith),
+      h 9 (omega arith),
+      h 10 (omega arith),
+      h 11 (omega arith),
+      h 12 (omega arith),
+      h 13 (omega arith),
+      h 14 (omega arith),
+      h 15 (omega arith),
+      h 16 (omega arith),
+      h 17 (omega arith),
+      h 18 (omega arith),
+      h 19 (omega arith),
+      h 20 (omega arith),
+      h 21 (omega arith),
+      h 22 (omega arith),
+      h 23 (omega arith),
+      h 24 (omega arith),
+      h 25 (omega arith),
+    )
 
 module _ (s : List ℕ) (at : ℕ) (f : Fields) where
   pub header-held : (h : Header) → FieldsOf B s at f → h ≡ headerBy (λ (j : ℕ). getD (f .values) j 0) → h ≡ headerAt s at

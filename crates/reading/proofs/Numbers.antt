@@ -1,17 +1,16 @@
 -- The refusals of a file are numbered 1 to 8, and a good header announces ten storeys at most.
-use Prim.Native.Nat.{ℕ, zero, suc, _+_, _*_, _≤_, _<_}
+use Prim.Native.Nat.{ℕ, zero, suc, _+_, _≤_}
 use native.Mathlib.Omega.{arith}
-use native.Mathlib.Nat.{not-suc-le-zero}
 use mathlib.Core.Bool.{Bool, true, false, _&&_}
-use mathlib.Core.List.{List, [], _∷_, _++_}
+use mathlib.Core.List.{List, [], _∷_}
 use mathlib.Core.Option.{Option, some, none}
 use mathlib.Core.Path.{_≡_, refl, ap, sym, _∙_}
 use lib.Dec.{leb, ltb, eqb}
 use lib.ListN.{length, drop, length-append}
 use borrow.Author.Tests.{leb-true, eq-eqb, ne-eqb}
 use Rattle.reading.specs.First.{pick, every, any, inOrder, first}
-use Rattle.reading.specs.Records.{Allowed, allows, never, ranges, fields, inRange, headerValues, storeyValues, memberValues, headerFault, storeyFault, memberFault}
-use Rattle.reading.specs.Lines.{shaped, faultIn, fieldAt, fieldFault, fieldsFault, headerAt, valueAt}
+use Rattle.reading.specs.Records.{Allowed, allows, fields, inRange, headerValues, storeyValues, memberValues, headerFault, storeyFault, memberFault}
+use Rattle.reading.specs.Lines.{shaped, faultIn, fieldAt, fieldFault, fieldsFault, headerAt}
 use Rattle.reading.specs.Survey.{place, lineNumber, membersBefore, storey, memberPlace, member, shape, unheld, repeated, headerLine, storeyLine, memberLine, noFault, at-line, or-else, firstFault, membersFault, storeysFault, trailing, surveyFault, listed, membersOf, survey}
 use Rattle.reading.specs.Checks.{CheckedOf}
 use Rattle.reading.specs.Answer.{told, filled, refusal}
@@ -22,8 +21,8 @@ use Rattle.reading.specs.declared.records.Tag.{Tag}
 use Rattle.reading.specs.declared.records.Tag.the-variants.{B, S, M}
 use Rattle.reading.specs.declared.survey.Fault.{Fault}
 use Rattle.reading.specs.declared.survey.Checked.{Checked}
-use Rattle.reading.proofs.Below.{and-left, and-right, every-at}
-use Rattle.reading.proofs.Firsts.{in-order-last, pick-clear, pick-both}
+use Rattle.reading.proofs.Below.{and-right, every-at}
+use Rattle.reading.proofs.Firsts.{in-order-last, pick-both}
 use Rattle.reading.proofs.Validity.{clear}
 
 pick-most : (t : Bool) (a b n : ℕ) → a ≤ n → b ≤ n → pick t a b ≤ n

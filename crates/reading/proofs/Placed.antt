@@ -1,11 +1,11 @@
 -- Laws of the rows that a loop fills, one after the other.
-use Prim.Native.Nat.{ℕ, zero, suc, _+_, _≤_, _<_}
+use Prim.Native.Nat.{ℕ, _+_, _≤_}
 use native.Mathlib.Omega.{arith}
 use native.Mathlib.Numerals.{add-one}
-use mathlib.Core.List.{List, [], _∷_, _++_, append-assoc}
-use mathlib.Core.Path.{_≡_, refl, ap, sym, _∙_}
-use lib.ListN.{length, take, drop, set, length-set, length-take, length-append}
-use Rattle.reading.specs.Survey.{listed, placed}
+use mathlib.Core.List.{List}
+use mathlib.Core.Path.{_≡_, refl}
+use lib.ListN.{set}
+use Rattle.reading.specs.Survey.{placed}
 
 module _ {A : Type 0} (f : ℕ → A) (k : ℕ) (rows : List A) where
   pub placed-none : rows ≡ placed f k 0 rows

@@ -1,13 +1,12 @@
 -- The contracts of the functions over rows, for their walks and for their callers' walks. Each is checked against the function's own
 -- clauses where the function is proved.
 use Prim.Native.Nat.{ℕ, _+_, _≤_}
-use mathlib.Core.List.{List, [], _∷_}
+use mathlib.Core.List.{[], _∷_}
 use mathlib.Core.Path.{_≡_}
 use lib.ListN.{length}
 use mir.Syntax.{w8, w64}
 use denote.RattleType.{RattleType}
-use borrow.Fn.Kind.{PK, RK}
-use borrow.Fn.Kinds.{rNum, rUnit}
+use borrow.Fn.Kinds.{rUnit}
 use borrow.Kind.Num.{pNum}
 use borrow.Kind.ShrSlice.{pShrS}
 use borrow.Kind.MutSlice.{pMutS}
@@ -17,7 +16,7 @@ use Rattle.reading.specs.Survey.{place, membersBefore, storey as storeyO
 use Rattle.reading.specs.Answer.{tells, told, storeysAfter, membersAfter}
 use Rattle.reading.specs.Checks.{Fits}
 use Rattle.walk.proofs.Fn.{Plain}
-use Rattle.walk.proofs.Slice.{R, taken, made}
+use Rattle.walk.proofs.Slice.{R, made}
 use Rattle.reading.proofs.Structs.{member, storey, reading}
 
 abbrev pub bytes : RattleType

@@ -1,17 +1,16 @@
 -- The loop over a storey's M lines: what holds after j of them, and one turn.
-use Prim.Native.Nat.{ℕ, zero, suc, _+_, _*_, _-_, _≤_, _<_}
+use Prim.Native.Nat.{ℕ, zero, suc, _+_, _-_, _≤_, _<_}
 use native.Mathlib.Omega.{arith}
 use native.Mathlib.Nat.{not-suc-le-zero}
-use native.Mathlib.Numerals.{add-one}
-use mathlib.Core.Bool.{Bool, true, false, _||_}
+use mathlib.Core.Bool.{Bool}
 use mathlib.Core.List.{List, [], _∷_}
 use mathlib.Core.Path.{_≡_, refl, ap, sym, _∙_}
 use lib.Dec.{ltb, eqb, eqb·suc-zero}
 use lib.ListN.{length, getD, set, length-set}
 use lib.Seq.{getD-set-same, getD-set-other}
 use borrow.Author.Count.{below-more}
-use borrow.Author.Tests.{eqb-true, eqb-false, eq-eqb, ne-eqb}
-use Rattle.reading.specs.First.{pick, any, inOrder, first}
+use borrow.Author.Tests.{ne-eqb}
+use Rattle.reading.specs.First.{pick, any, first}
 use Rattle.reading.specs.Records.{memberFault}
 use Rattle.reading.specs.Lines.{fieldsFault}
 use Rattle.reading.specs.declared.records.Tag.the-variants.{M}
@@ -46,7 +45,7 @@ module _ (s : List ℕ) (rows i m count : ℕ) where
   turn-first numbers z d = record { due = d; turn = omega arith; size = z; held = λ e l. absurd (not-suc-le-zero l); clear = first-none noFault (λ f. f .number) line }
 
   module _ (numbers : List ℕ) (j : ℕ) (u : Turn s rows i m count numbers j) (h : j < count) (at : ℕ) (l : MemberLine) (at-is : at ≡ place (i + 1) (m + j)) (o : MemberLineOf s at (ltb (m + j) rows) l) (x f : ℕ)
-    (xi : x ≡ pick (any (λ (e : ℕ). eqb (getD numbers e 0) (l .number)) j) 5 0) (fi : f ≡ pick (eqb (l .fault) 0) x (l .fault)) where
+      (xi : x ≡ pick (any (λ (e : ℕ). eqb (getD numbers e 0) (l .number)) j) 5 0) (fi : f ≡ pick (eqb (l .fault) 0) x (l .fault)) where
     place-is : at ≡ memberPlace s i j
     place-is = omega (arith, u .due .before, at-is)
 
@@ -61,12 +60,12 @@ module _ (s : List ℕ) (rows i m count : ℕ) where
     fault-is =
         fi
         ∙ by-first (l .fault) x (pick (any (λ (e : ℕ). eqb (member s i e .number) (member s i j .number)) j) 5 0)
-            (λ z. xi ∙ ap (λ (t : Bool). pick t 5 0) (any-same _ _ j (λ e g. rw (u .held e g, number-is z))))
+        (λ z. xi ∙ ap (λ (t : Bool). pick t 5 0) (any-same _ _ j (λ e g. rw (u .held e g, number-is z))))
         ∙ rw first-is
-            (sym
-            (in-order-last
-            (shape M s (memberPlace s i j) ∷ unheld (membersBefore s i + j) rows ∷ fieldsFault M s (memberPlace s i j) ∷ memberFault (member s i j) ∷ [])
-            (repeated (λ e. member s i e .number) j)))
+        (sym
+        (in-order-last
+        (shape M s (memberPlace s i j) ∷ unheld (membersBefore s i + j) rows ∷ fieldsFault M s (memberPlace s i j) ∷ memberFault (member s i j) ∷ [])
+        (repeated (λ e. member s i e .number) j)))
 
     next-is : firstFault line (j + 1) ≡ line j
     next-is = first-next noFault (λ f. f .number) line j (ap (λ (g : Fault). g .number) (u .clear))

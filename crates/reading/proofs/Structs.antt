@@ -4,7 +4,6 @@ use Rattle.reading.proofs.records.Member as M
 use Rattle.reading.proofs.records.Member.Laws as M′
 use Rattle.reading.proofs.records.Storey as T
 use Rattle.reading.proofs.records.Storey.Laws as T′
-
 use Rattle.reading.proofs.survey.Reading as Rg
 use Rattle.reading.proofs.survey.Reading.Laws as Rg′
 

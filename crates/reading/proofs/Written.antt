@@ -1,16 +1,14 @@
 -- Laws of a field: when it is written as it must be, and what it then holds.
-use Prim.Native.Nat.{ℕ, zero, suc, _+_, _-_, _*_, _^_, _≤_, _<_}
+use Prim.Native.Nat.{ℕ, _+_, _-_, _<_}
 use native.Mathlib.Omega.{arith}
-use mathlib.Core.Bool.{Bool, true, false, _&&_, and-false}
-use mathlib.Core.List.{List, [], _∷_}
-use mathlib.Core.Option.{Option, some, none}
-use mathlib.Core.Path.{_≡_, refl, ap, sym, _∙_}
-use lib.Dec.{ltb, eqb}
-use lib.ListN.{length, take, drop, getD}
+use mathlib.Core.Bool.{Bool, true, false, and-false}
+use mathlib.Core.List.{List}
+use mathlib.Core.Path.{_≡_, ap, sym, _∙_}
+use lib.Dec.{eqb}
+use lib.ListN.{take, drop, getD}
 use lib.Seq.{getD-take, getD-drop}
-use borrow.Author.Tests.{eqb-true, eq-eqb, ne-eqb, lt-ltb, le-ltb}
-use Rattle.reading.specs.First.{pick}
-use Rattle.reading.specs.Spelling.{column, spelled, same, value, written, fieldOf}
+use borrow.Author.Tests.{eqb-true, eq-eqb, ne-eqb, lt-ltb}
+use Rattle.reading.specs.Spelling.{spelled, same, value, written, fieldOf}
 use Rattle.reading.specs.declared.cursor.Field.the-variants.{Number, Unwritten}
 use Rattle.reading.specs.Field.{fieldStep}
 use Rattle.reading.proofs.Below.{and-left, and-right}

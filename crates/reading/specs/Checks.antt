@@ -9,7 +9,6 @@ use Rattle.reading.specs.Records.{storeyFault, memberFault}
 use Rattle.reading.specs.Lines.{fieldsFault, headerAt, storeyAt, memberAt}
 use Rattle.reading.specs.Survey.{place, membersBefore, storey, shape, headerLine, or-else, firstFault, storeysFault, trailing}
 use Rattle.reading.specs.declared.records.Tag.the-variants.{B, S, M}
-use Rattle.reading.specs.declared.survey.Fault.{Fault}
 use Rattle.reading.specs.declared.survey.HeaderLine.{HeaderLine}
 use Rattle.reading.specs.declared.survey.StoreyLine.{StoreyLine}
 use Rattle.reading.specs.declared.survey.MemberLine.{MemberLine}

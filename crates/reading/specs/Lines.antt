@@ -1,10 +1,10 @@
 -- The lines of a survey file (document 01, "The survey record"): what a line is, what its fields hold, and its first refusal by itself.
 -- A line is given by the file s and the place `at` where it begins.
-use Prim.Native.Nat.{ℕ, zero, suc, _+_, _*_}
-use mathlib.Core.Bool.{Bool, true, false, _&&_, _||_}
+use Prim.Native.Nat.{ℕ, suc, _+_, _*_}
+use mathlib.Core.Bool.{Bool, false, _&&_, _||_}
 use mathlib.Core.List.{List, [], _∷_}
 use mathlib.Core.Option.{Option, some, none}
-use lib.Dec.{leb, ltb, eqb}
+use lib.Dec.{ltb, eqb}
 use lib.ListN.{length, take, drop, getD}
 use Rattle.reading.specs.First.{pick, first}
 use Rattle.reading.specs.Records.{Allowed, allows, never, ranges, fields}

@@ -1,7 +1,6 @@
 -- A survey file (document 01, "The survey record", "Refusals as returned"): the place and the number of each line, the first refusal
 -- of each, the first refusal of the file, and what an accepted file holds.
 use Prim.Native.Nat.{ℕ, zero, suc, _+_, _*_}
-use mathlib.Core.Bool.{Bool, true, false}
 use mathlib.Core.List.{List, [], _∷_, _++_}
 use lib.Dec.{ltb, eqb}
 use lib.ListN.{length, drop, set}

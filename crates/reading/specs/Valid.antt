@@ -1,5 +1,5 @@
 -- The bounds of a good member, as facts (document 01, "The survey record"). `valid` of proofs/ derives them from the member's check.
-use Prim.Native.Nat.{ℕ, _≤_}
+use Prim.Native.Nat.{_≤_}
 use Rattle.reading.specs.declared.records.Member.{Member}
 
 pub record Valid (m : Member) : Type 0 where

@@ -1,11 +1,9 @@
 use mathlib.Core.List.{[], _∷_}
-use mathlib.Core.Path.{_≡_, refl, ap, _∙_}
+use mathlib.Core.Path.{refl, ap, _∙_}
 use contract.Lifetimes.{Lfts, Shares}
 use contract.Running.{tablesOf}
 use mir.Syntax.{Ty, w8, w64, tyInt, tyRef, named, erased, imm, mut}
-use mir.Val.{vint}
 use denote.Memory.{pointee}
-use borrow.Author.Needs.{needs}
 use borrow.Kind.MutSlice.{fix-len}
 use borrow.Fn.World.{World}
 use borrow.Rule.Slice.Mut.{mslice, msleft}
@@ -93,12 +91,44 @@ body κs qs bs =
     ret tt)))
 
 answers : Answers Says.llunareth-read K 3 Code.function body
-answers κs qs a good pre bs = λ γ. (refl, λ γ. (refl, (λ _. tt, λ g. (refl, λ back. (refl, λ last.
-    λ γ. (refl, (λ _. tt, λ h. (refl, λ end.
-    ((refl, (fix-len (a .1 .0 .ptr) (a .1 .0 .name) (g .2 .1 .0) (a .1 .0 .now) back,
-    (fix-len (a .1 .1 .0 .ptr) (a .1 .1 .0 .name) (g .2 .1 .1 .0) (a .1 .1 .0 .now) last,
-    (fix-len (a .1 .1 .1 .0 .ptr) (a .1 .1 .1 .0 .name) (h .2 .0) (a .1 .1 .1 .0 .now) end, tt)))),
-    (h .5 ∙ ap (λ (t : Told). put (wordsOf t) (a .1 .1 .1 .0 .now)) (g .5 .0), (g .5 .1 .0, g .5 .1 .1)))))))))))
+answers κs qs a good pre bs = λ γ. (
+  refl,
+  λ γ. (
+    refl,
+    (
+      λ _. tt,
+      λ g. (
+        refl,
+        λ back. (
+          refl,
+          λ last.
+              λ γ. (
+                refl,
+                (
+                  λ _. tt,
+                  λ h. (
+                    refl,
+                    λ end. (
+                      (
+                        refl,
+                        (
+                          fix-len (a .1 .0 .ptr) (a .1 .0 .name) (g .2 .1 .0) (a .1 .0 .now) back,
+                          (
+                            fix-len (a .1 .1 .0 .ptr) (a .1 .1 .0 .name) (g .2 .1 .1 .0) (a .1 .1 .0 .now) last,
+                            (fix-len (a .1 .1 .1 .0 .ptr) (a .1 .1 .1 .0 .name) (h .2 .0) (a .1 .1 .1 .0 .now) end, tt),
+                          ),
+                        ),
+                      ),
+                      (h .5 ∙ ap (λ (t : Told). put (wordsOf t) (a .1 .1 .1 .0 .now)) (g .5 .0), (g .5 .1 .0, g .5 .1 .1)),
+                    ),
+                  ),
+                ),
+              ),
+        ),
+      ),
+    ),
+  ),
+)
 
 pub llunareth-read-spec : {M : Type 1} → statement M
 unfolding Code.routine tablesOf

@@ -1,19 +1,13 @@
-use mathlib.Core.Path.{ap}
-use lib.ListN.{length-set}
+use mathlib.Core.Path.{ap, _≡_, refl, _∙_}
+use lib.ListN.{length-set, length, take, drop}
 use Rattle.reading.specs.Answer.{tells}
-use Rattle.exports.proofs.Front.{words-length, put-none, put-all}
-use Prim.Native.Nat.{ℕ, _+_, _-_, _*_, _≤_, _<_}
-use mathlib.Core.Path.{_≡_, refl, sym, _∙_}
+use Rattle.exports.proofs.Front.{words-length, put-none, put-all, front-step}
+use Prim.Native.Nat.{_+_, _-_, _≤_}
 use native.Mathlib.Omega.{arith}
 use borrow.Author.Needs.{needs}
-use lib.ListN.{length, take, drop, getD}
 use mathlib.Core.List.{_++_}
-use Rattle.exports.proofs.Front.{front-step}
 use Rattle.exports.proofs.reading_call.put_words.Statement.{statement}
 use Rattle.exports.proofs.reading_call.put_words.Tie as tie
-use Rattle.exports.proofs.reading_call.put_words.Reads as reads
-use Rattle.exports.proofs.reading_call.put_words.Lts as lts
-use Rattle.exports.proofs.reading_call.words_of.Reads as words-of-reads
 
 abbrev Inv-loop : tie.InvT-loop
 Inv-loop out₀ w i₀ out i = (i ≤ 10) × (10 ≤ length out₀) × (length w ≡ 10) × (length out ≡ length out₀) × (out ≡ take i w ++ drop i out₀)
@@ -21,51 +15,39 @@ Inv-loop out₀ w i₀ out i = (i ≤ 10) × (10 ≤ length out₀) × (length w
 abbrev μ-loop : tie.MeasureT-loop
 μ-loop out₀ w i₀ out i = 10 - i
 
--- src/reading_call.rt:42:13
 words-of-requires : tie.Need-words-of-requires Inv-loop μ-loop
 words-of-requires c κs = search needs
 
--- src/reading_call.rt:44:9
 returns : tie.Need-returns Inv-loop μ-loop
 returns c = put-none (tells (c .before .before .before .args .r .answer)) (c .before .before .before .args .out .now) (c .if1 .taken)
 
--- src/reading_call.rt:47:5
 loop-holds : tie.Need-loop-holds Inv-loop μ-loop
 loop-holds c = (omega arith, c .if1 .left, ap length (c .before .words-of .ensures) ∙ words-length (tells (c .before .before .before .args .r .answer)), refl, refl)
 
--- src/reading_call.rt:48:18
 mul-out : tie.Need-mul-out Inv-loop μ-loop
 mul-out c = search needs
 
--- src/reading_call.rt:48:18
 array-read-out : tie.Need-array-read-out Inv-loop μ-loop
 array-read-out c = search needs
 
--- src/reading_call.rt:48:9
 mul-out-2 : tie.Need-mul-out-2 Inv-loop μ-loop
 mul-out-2 c = search needs
 
--- src/reading_call.rt:48:9
 slice-write-out : tie.Need-slice-write-out Inv-loop μ-loop
 slice-write-out c = search needs
 
--- src/reading_call.rt:49:9
 add-i : tie.Need-add-i Inv-loop μ-loop
 add-i c = search needs
 
--- src/reading_call.rt:47:5
 loop-less : tie.Need-loop-less Inv-loop μ-loop
 loop-less c = search needs
 
--- src/reading_call.rt:47:5
 loop-again : tie.Need-loop-again Inv-loop μ-loop
 loop-again c = (omega arith, c .before .loop .inv .1, c .before .loop .inv .2, simp length-set (c .before .loop .inv .3), front-step (c .before .before .before .words-of .result) (c .before .before .before .before .before .args .out .now) (c .before .loop .out) (c .before .loop .i) (omega arith) (omega arith) (c .before .loop .inv .4))
 
--- src/reading_call.rt:39:1
 same-length : tie.Need-same-length Inv-loop μ-loop
 same-length c = c .before .loop .inv .3
 
--- src/reading_call.rt:39:1
 returns-2 : tie.Need-returns-2 Inv-loop μ-loop
 returns-2 c = put-all (tells (c .before .before .before .before .before .args .r .answer)) (c .before .before .before .before .before .args .out .now) (c .before .before .before .words-of .result) (c .before .loop .out) (c .before .loop .i) (c .before .before .before .words-of .ensures) (c .before .loop .inv .1) (c .loop-test .left) (c .before .loop .inv .0) (c .before .loop .inv .4)
 

@@ -1,27 +1,19 @@
 use borrow.Author.Needs.{needs}
 use Rattle.exports.proofs.reading_call.words_of.Statement.{statement}
 use Rattle.exports.proofs.reading_call.words_of.Tie as tie
-use Rattle.exports.proofs.reading_call.words_of.Reads as reads
-use Rattle.exports.proofs.reading_call.words_of.Lts as lts
-use Rattle.reading.proofs.refusal.number.Reads as number-reads
 
--- src/reading_call.rt:19:13
 enum-known-a : tie.Need-enum-known-a
 enum-known-a c = search needs
 
--- src/reading_call.rt:34:31
 enum-known-a-2 : tie.Need-enum-known-a-2
 enum-known-a-2 c = search needs
 
--- src/reading_call.rt:34:51
 number-requires : tie.Need-number-requires
 number-requires c κs = search needs
 
--- src/reading_call.rt:13:1
 returns : tie.Need-returns
 returns c = simp (c .before .a .given .1)
 
--- src/reading_call.rt:13:1
 returns-2 : tie.Need-returns-2
 returns-2 c = simp (c .before .before .a2 .given .1, c .number .ensures)
 

@@ -7,25 +7,16 @@ use Rattle.reading.proofs.Held.{header-same}
 use borrow.Author.Needs.{needs}
 use Rattle.exports.proofs.record_checks.llunareth_header_fault.Statement.{statement}
 use Rattle.exports.proofs.record_checks.llunareth_header_fault.Tie as tie
-use Rattle.exports.proofs.record_checks.llunareth_header_fault.Reads as reads
-use Rattle.exports.proofs.record_checks.llunareth_header_fault.Lts as lts
-use Rattle.exports.proofs.record_checks.values_of.Reads as values-of-reads
-use Rattle.reading.proofs.lines.header_of.Reads as header-of-reads
-use Rattle.reading.proofs.ranges.header_fault.Reads as header-fault-reads
 
--- src/record_checks.rt:28:9
 values-of-requires : tie.Need-values-of-requires
 values-of-requires c κs = search needs
 
--- src/record_checks.rt:29:35
 header-of-requires : tie.Need-header-of-requires
 header-of-requires c κs = search needs
 
--- src/record_checks.rt:29:5
 header-fault-requires : tie.Need-header-fault-requires
 header-fault-requires c κs = search needs
 
--- src/record_checks.rt:24:1
 returns : tie.Need-returns
 returns c = c .header-fault .ensures ∙ ap headerFault (c .before .header-of .ensures ∙ header-same (λ (j : ℕ). getD (c .before .before .values-of .result) j 0) (λ (j : ℕ). getD (c .before .before .before .before .args .values .now) j 0) (λ j h. c .before .before .values-of .ensures j (omega arith)))
 

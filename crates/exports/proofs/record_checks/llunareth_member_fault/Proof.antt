@@ -7,25 +7,16 @@ use Rattle.reading.proofs.Held.{member-same}
 use borrow.Author.Needs.{needs}
 use Rattle.exports.proofs.record_checks.llunareth_member_fault.Statement.{statement}
 use Rattle.exports.proofs.record_checks.llunareth_member_fault.Tie as tie
-use Rattle.exports.proofs.record_checks.llunareth_member_fault.Reads as reads
-use Rattle.exports.proofs.record_checks.llunareth_member_fault.Lts as lts
-use Rattle.exports.proofs.record_checks.values_of.Reads as values-of-reads
-use Rattle.reading.proofs.lines.member_of.Reads as member-of-reads
-use Rattle.reading.proofs.ranges.member_fault.Reads as member-fault-reads
 
--- src/record_checks.rt:44:9
 values-of-requires : tie.Need-values-of-requires
 values-of-requires c κs = search needs
 
--- src/record_checks.rt:45:35
 member-of-requires : tie.Need-member-of-requires
 member-of-requires c κs = search needs
 
--- src/record_checks.rt:45:5
 member-fault-requires : tie.Need-member-fault-requires
 member-fault-requires c κs = search needs
 
--- src/record_checks.rt:40:1
 returns : tie.Need-returns
 returns c = c .member-fault .ensures ∙ ap memberFault (c .before .member-of .ensures ∙ member-same (λ (j : ℕ). getD (c .before .before .values-of .result) j 0) (λ (j : ℕ). getD (c .before .before .before .before .args .values .now) j 0) (λ j h. c .before .before .values-of .ensures j (omega arith)))
 

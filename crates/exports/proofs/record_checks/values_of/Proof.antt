@@ -1,13 +1,8 @@
-use Prim.Native.Nat.{ℕ, _+_, _-_, _*_, _≤_, _<_}
-use mathlib.Core.Path.{_≡_, refl, sym, _∙_}
-use native.Mathlib.Omega.{arith}
+use Prim.Native.Nat.{_-_}
 use borrow.Author.Needs.{needs}
-use lib.ListN.{length, take, drop, getD}
 use Rattle.exports.proofs.Values.{Copied, copied-none, copied-next, copied-all, copied-short}
 use Rattle.exports.proofs.record_checks.values_of.Statement.{statement}
 use Rattle.exports.proofs.record_checks.values_of.Tie as tie
-use Rattle.exports.proofs.record_checks.values_of.Reads as reads
-use Rattle.exports.proofs.record_checks.values_of.Lts as lts
 
 abbrev Inv-loop : tie.InvT-loop
 Inv-loop values vs₀ j₀ vs j = Copied values vs j
@@ -15,43 +10,33 @@ Inv-loop values vs₀ j₀ vs j = Copied values vs j
 abbrev μ-loop : tie.MeasureT-loop
 μ-loop values vs₀ j₀ vs j = 26 - j
 
--- src/record_checks.rt:14:5
 loop-holds : tie.Need-loop-holds Inv-loop μ-loop
 loop-holds c = copied-none _
 
--- src/record_checks.rt:16:13
 returns : tie.Need-returns Inv-loop μ-loop
 returns c = copied-short _ _ _ (c .before .before .loop .inv) (c .if1 .taken)
 
--- src/record_checks.rt:18:17
 mul-vs : tie.Need-mul-vs Inv-loop μ-loop
 mul-vs c = search needs
 
--- src/record_checks.rt:18:17
 shared-slice-read-vs : tie.Need-shared-slice-read-vs Inv-loop μ-loop
 shared-slice-read-vs c = search needs
 
--- src/record_checks.rt:18:9
 mul-vs-2 : tie.Need-mul-vs-2 Inv-loop μ-loop
 mul-vs-2 c = search needs
 
--- src/record_checks.rt:18:9
 array-write-vs : tie.Need-array-write-vs Inv-loop μ-loop
 array-write-vs c = search needs
 
--- src/record_checks.rt:19:9
 add-j : tie.Need-add-j Inv-loop μ-loop
 add-j c = search needs
 
--- src/record_checks.rt:14:5
 loop-less : tie.Need-loop-less Inv-loop μ-loop
 loop-less c = search needs
 
--- src/record_checks.rt:14:5
 loop-again : tie.Need-loop-again Inv-loop μ-loop
 loop-again c = copied-next _ _ _ (c .before .before .before .loop .inv) (c .before .before .loop-test .taken)
 
--- src/record_checks.rt:9:1
 returns-2 : tie.Need-returns-2 Inv-loop μ-loop
 returns-2 c = copied-all _ _ _ (c .before .loop .inv) (c .loop-test .left)
 

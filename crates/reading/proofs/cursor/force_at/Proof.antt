@@ -5,60 +5,43 @@ use Rattle.reading.proofs.Written.{force-number, force-zero, force-minu
 use borrow.Author.Needs.{needs}
 use Rattle.reading.proofs.cursor.force_at.Statement.{statement}
 use Rattle.reading.proofs.cursor.force_at.Tie as tie
-use Rattle.reading.proofs.cursor.force_at.Reads as reads
-use Rattle.reading.proofs.cursor.force_at.Lts as lts
-use Rattle.reading.proofs.cursor.is_written.Reads as is-written-reads
-use Rattle.reading.proofs.spelling.digits.Reads as digits-reads
 
--- src/cursor.rt:49:9
 digits-requires : tie.Need-digits-requires
 digits-requires c κs = search needs
 
--- src/cursor.rt:50:8
 is-written-requires : tie.Need-is-written-requires
 is-written-requires c κs = search needs
 
--- src/cursor.rt:51:30
 add-t5 : tie.Need-add-t5
 add-t5 c = search needs
 
--- src/cursor.rt:51:56
 add-t6 : tie.Need-add-t6
 add-t6 c = search needs
 
--- src/cursor.rt:51:9
 returns : tie.Need-returns
 returns c = let a = c .before .before .before .before .args in let t = take 8 (drop (a .at) (a .s .now)) in force-number t _ _ (c .before .before .digits .ensures .0) (sym (c .before .is-written .ensures) ∙ c .if1 .taken)
 
--- src/cursor.rt:54:46
 add-t9 : tie.Need-add-t9
 add-t9 c = search needs
 
--- src/cursor.rt:54:9
 returns-2 : tie.Need-returns-2
 returns-2 c = let a = c .before .before .before .before .before .args in let t = take 8 (drop (a .at) (a .s .now)) in force-zero t _ _ (c .before .before .before .digits .ensures .0) (sym (c .before .before .is-written .ensures) ∙ c .before .if1 .left) (c .if2 .taken)
 
--- src/cursor.rt:56:8
 is-written-requires-2 : tie.Need-is-written-requires-2
 is-written-requires-2 c κs = search needs
 
--- src/cursor.rt:57:30
 sub-t12 : tie.Need-sub-t12
 sub-t12 c = let a = c .before .before .before .before .before .before .before .args in let t = take 8 (drop (a .at) (a .s .now)) in omega (arith, minus-small t (sym (c .before .is-written2 .ensures) ∙ c .if3 .taken), (c .before .before .before .before .before .digits .ensures .0))
 
--- src/cursor.rt:57:56
 add-t13 : tie.Need-add-t13
 add-t13 c = search needs
 
--- src/cursor.rt:57:9
 returns-3 : tie.Need-returns-3
 returns-3 c = let a = c .before .before .before .before .before .before .before .args in let t = take 8 (drop (a .at) (a .s .now)) in force-minus t _ _ (c .before .before .before .before .before .digits .ensures .0) (sym (c .before .before .before .before .is-written .ensures) ∙ c .before .before .before .if1 .left) (sym (c .before .is-written2 .ensures) ∙ c .if3 .taken) (c .before .before .if2 .left)
 
--- src/cursor.rt:59:35
 add-t15 : tie.Need-add-t15
 add-t15 c = search needs
 
--- src/cursor.rt:45:1
 returns-4 : tie.Need-returns-4
 returns-4 c = let a = c .before .before .before .before .before .before .before .args in let t = take 8 (drop (a .at) (a .s .now)) in force-not t _ _ (c .before .before .before .before .before .digits .ensures .0) (sym (c .before .before .before .before .is-written .ensures) ∙ c .before .before .before .if1 .left) (sym (c .before .is-written2 .ensures) ∙ c .if3 .left)
 

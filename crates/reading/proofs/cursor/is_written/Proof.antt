@@ -2,23 +2,16 @@ use Rattle.reading.proofs.Written.{written-not, written-by}
 use borrow.Author.Needs.{needs}
 use Rattle.reading.proofs.cursor.is_written.Statement.{statement}
 use Rattle.reading.proofs.cursor.is_written.Tie as tie
-use Rattle.reading.proofs.cursor.is_written.Reads as reads
-use Rattle.reading.proofs.cursor.is_written.Lts as lts
-use Rattle.reading.proofs.spelling.spells.Reads as spells-reads
 
--- src/cursor.rt:26:8
 shared-slice-read-if1 : tie.Need-shared-slice-read-if1
 shared-slice-read-if1 c = search needs
 
--- src/cursor.rt:27:9
 returns : tie.Need-returns
 returns c = let a = c .before .before .before .args in written-not (a .s .now) (a .at) (a .sign) (c .if1 .taken)
 
--- src/cursor.rt:29:5
 spells-requires : tie.Need-spells-requires
 spells-requires c κs = search needs
 
--- src/cursor.rt:22:1
 returns-2 : tie.Need-returns-2
 returns-2 c = let a = c .before .before .before .before .args in written-by (a .s .now) (a .at) (a .sign) (a .n) (c .spells .result) (c .before .if1 .left) (c .before .before .before .before .pre .1) (c .spells .ensures)
 

@@ -1,36 +1,25 @@
 use mathlib.Core.Path.{_∙_, sym}
 use lib.ListN.{take, drop}
-use native.Mathlib.Omega.{arith}
 use Rattle.reading.proofs.Written.{plain-number, plain-not}
 use borrow.Author.Needs.{needs}
 use Rattle.reading.proofs.cursor.plain_at.Statement.{statement}
 use Rattle.reading.proofs.cursor.plain_at.Tie as tie
-use Rattle.reading.proofs.cursor.plain_at.Reads as reads
-use Rattle.reading.proofs.cursor.plain_at.Lts as lts
-use Rattle.reading.proofs.cursor.is_written.Reads as is-written-reads
-use Rattle.reading.proofs.spelling.digits.Reads as digits-reads
 
--- src/cursor.rt:37:9
 digits-requires : tie.Need-digits-requires
 digits-requires c κs = search needs
 
--- src/cursor.rt:38:8
 is-written-requires : tie.Need-is-written-requires
 is-written-requires c κs = search needs
 
--- src/cursor.rt:39:46
 add-t5 : tie.Need-add-t5
 add-t5 c = search needs
 
--- src/cursor.rt:39:9
 returns : tie.Need-returns
 returns c = let a = c .before .before .before .before .args in let t = take 8 (drop (a .at) (a .s .now)) in plain-number t _ _ (c .before .before .digits .ensures .0) (sym (c .before .is-written .ensures) ∙ c .if1 .taken)
 
--- src/cursor.rt:41:35
 add-t7 : tie.Need-add-t7
 add-t7 c = search needs
 
--- src/cursor.rt:33:1
 returns-2 : tie.Need-returns-2
 returns-2 c = let a = c .before .before .before .before .args in let t = take 8 (drop (a .at) (a .s .now)) in plain-not t _ (sym (c .before .is-written .ensures) ∙ c .if1 .left)
 

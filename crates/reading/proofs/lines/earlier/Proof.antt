@@ -1,14 +1,10 @@
 use borrow.Author.Tests.{eq-eqb, ne-eqb}
 use Rattle.reading.proofs.lines.earlier.Statement.{statement}
 use Rattle.reading.proofs.lines.earlier.Tie as tie
-use Rattle.reading.proofs.lines.earlier.Reads as reads
-use Rattle.reading.proofs.lines.earlier.Lts as lts
 
--- src/lines.rt:99:9
 returns : tie.Need-returns
 returns c = simp (eq-eqb _ _ (c .if1 .taken))
 
--- src/lines.rt:95:1
 returns-2 : tie.Need-returns-2
 returns-2 c = simp (ne-eqb _ _ (c .if1 .left))
 

@@ -2,27 +2,19 @@ use mathlib.Core.Path.{_∙_}
 use borrow.Author.Needs.{needs}
 use Rattle.reading.proofs.lines.fault_of.Statement.{statement}
 use Rattle.reading.proofs.lines.fault_of.Tie as tie
-use Rattle.reading.proofs.lines.fault_of.Reads as reads
-use Rattle.reading.proofs.lines.fault_of.Lts as lts
-use Rattle.reading.proofs.lines.range_fault.Reads as range-fault-reads
 
--- src/lines.rt:80:23
 enum-known-f : tie.Need-enum-known-f
 enum-known-f c = search needs
 
--- src/lines.rt:80:32
 range-fault-requires : tie.Need-range-fault-requires
 range-fault-requires c κs = search needs
 
--- src/lines.rt:81:32
 enum-told : tie.Need-enum-told
 enum-told c = search needs
 
--- src/lines.rt:76:1
 returns : tie.Need-returns
 returns c = c .range-fault .ensures ∙ simp (c .before .before .f .given .1)
 
--- src/lines.rt:76:1
 returns-2 : tie.Need-returns-2
 returns-2 c = search needs
 

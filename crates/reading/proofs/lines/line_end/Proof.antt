@@ -1,14 +1,12 @@
-use Prim.Native.Nat.{ℕ, _+_, _-_, _*_, _≤_, _<_}
-use mathlib.Core.Path.{_≡_, refl, sym, _∙_}
+use Prim.Native.Nat.{_+_, _-_, _≤_}
+use mathlib.Core.Path.{_≡_}
 use native.Mathlib.Omega.{arith}
 use borrow.Author.Needs.{needs}
-use lib.ListN.{length, take, drop, getD}
+use lib.ListN.{length, drop}
 use Rattle.reading.specs.Lines.{lineEnd}
 use Rattle.reading.proofs.Shape.{end-here, end-later, end-none}
 use Rattle.reading.proofs.lines.line_end.Statement.{statement}
 use Rattle.reading.proofs.lines.line_end.Tie as tie
-use Rattle.reading.proofs.lines.line_end.Reads as reads
-use Rattle.reading.proofs.lines.line_end.Lts as lts
 
 abbrev Inv-loop : tie.InvT-loop
 Inv-loop s at i₀ i = (i ≤ length s) × (i + lineEnd (drop i s) ≡ at + lineEnd (drop at s))
@@ -16,31 +14,24 @@ Inv-loop s at i₀ i = (i ≤ length s) × (i + lineEnd (drop i s) ≡ at + line
 abbrev μ-loop : tie.MeasureT-loop
 μ-loop s at i₀ i = length s - i
 
--- src/lines.rt:39:5
 loop-holds : tie.Need-loop-holds Inv-loop μ-loop
 loop-holds c = search needs
 
--- src/lines.rt:40:12
 shared-slice-read-if1 : tie.Need-shared-slice-read-if1 Inv-loop μ-loop
 shared-slice-read-if1 c = search needs
 
--- src/lines.rt:41:13
 returns : tie.Need-returns Inv-loop μ-loop
 returns c = let l = c .before .before .before .loop in let a = c .before .before .before .before .args in omega (arith, end-here (a .s .now) (l .i) (c .before .before .loop-test .taken) (c .if1 .taken))
 
--- src/lines.rt:43:9
 add-i : tie.Need-add-i Inv-loop μ-loop
 add-i c = search needs
 
--- src/lines.rt:39:5
 loop-less : tie.Need-loop-less Inv-loop μ-loop
 loop-less c = search needs
 
--- src/lines.rt:39:5
 loop-again : tie.Need-loop-again Inv-loop μ-loop
 loop-again c = let l = c .before .before .before .loop in let a = c .before .before .before .before .args in let e = end-later (a .s .now) (l .i) (c .before .before .loop-test .taken) (c .if1 .left) in (omega arith, omega arith)
 
--- src/lines.rt:34:1
 returns-2 : tie.Need-returns-2 Inv-loop μ-loop
 returns-2 c = let l = c .before .loop in omega (arith, end-none (c .before .before .args .s .now) (l .i) (c .loop-test .left))
 

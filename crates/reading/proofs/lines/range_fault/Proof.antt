@@ -2,19 +2,13 @@ use mathlib.Core.Path.{sym, _∙_}
 use borrow.Author.Needs.{needs}
 use Rattle.reading.proofs.lines.range_fault.Statement.{statement}
 use Rattle.reading.proofs.lines.range_fault.Tie as tie
-use Rattle.reading.proofs.lines.range_fault.Reads as reads
-use Rattle.reading.proofs.lines.range_fault.Lts as lts
-use Rattle.reading.proofs.ranges.range_allows.Reads as range-allows-reads
 
--- src/lines.rt:88:8
 range-allows-requires : tie.Need-range-allows-requires
 range-allows-requires c κs = search needs
 
--- src/lines.rt:89:9
 returns : tie.Need-returns
 returns c = rw (sym (c .before .range-allows .ensures) ∙ c .if1 .taken)
 
--- src/lines.rt:85:1
 returns-2 : tie.Need-returns-2
 returns-2 c = rw (sym (c .before .range-allows .ensures) ∙ c .if1 .left)
 

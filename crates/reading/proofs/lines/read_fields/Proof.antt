@@ -1,22 +1,12 @@
-use Prim.Native.Nat.{ℕ, _+_, _-_, _*_, _≤_, _<_}
-use mathlib.Core.Path.{_≡_, refl, sym, _∙_}
+use Prim.Native.Nat.{_-_}
+use mathlib.Core.Path.{_≡_, refl}
 use native.Mathlib.Omega.{arith}
 use borrow.Author.Needs.{needs}
-use lib.ListN.{length, take, drop, getD}
 use Rattle.reading.specs.Records.{fields}
 use Rattle.reading.proofs.Allowing.{fields-most}
 use Rattle.reading.proofs.Fields.{Sofar, at-first, after}
 use Rattle.reading.proofs.lines.read_fields.Statement.{statement}
 use Rattle.reading.proofs.lines.read_fields.Tie as tie
-use Rattle.reading.proofs.lines.read_fields.Reads as reads
-use Rattle.reading.proofs.lines.read_fields.Lts as lts
-use Rattle.reading.proofs.cursor.Cursor.field.Reads as field-reads
-use Rattle.reading.proofs.cursor.next_of.Reads as next-of-reads
-use Rattle.reading.proofs.cursor.number_of.Reads as number-of-reads
-use Rattle.reading.proofs.lines.earlier.Reads as earlier-reads
-use Rattle.reading.proofs.lines.fault_of.Reads as fault-of-reads
-use Rattle.reading.proofs.lines.is_force.Reads as is-force-reads
-use Rattle.reading.proofs.ranges.field_count.Reads as field-count-reads
 
 abbrev Inv-loop : tie.InvT-loop
 Inv-loop s at tag n values₀ fault₀ c₀ j₀ values fault c j = Sofar tag s at n values fault (c .at) j
@@ -24,73 +14,57 @@ Inv-loop s at tag n values₀ fault₀ c₀ j₀ values fault c j = Sofar tag s 
 abbrev μ-loop : tie.MeasureT-loop
 μ-loop s at tag n values₀ fault₀ c₀ j₀ values fault c j = n - j
 
--- src/lines.rt:124:9
 field-count-requires : tie.Need-field-count-requires Inv-loop μ-loop
 field-count-requires c κs = search needs
 
--- src/lines.rt:127:30
 add-t10 : tie.Need-add-t10 Inv-loop μ-loop
 add-t10 c = search needs
 
--- src/lines.rt:129:5
 loop-holds : tie.Need-loop-holds Inv-loop μ-loop
 loop-holds c = let a = c .before .before .args in let e = c .field-count .ensures in at-first (a .tag) (a .s .now) (a .at) _ _ e (omega (arith, fields-most (a .tag))) refl
 
--- src/lines.rt:130:28
 is-force-requires : tie.Need-is-force-requires Inv-loop μ-loop
 is-force-requires c κs = search needs
 
--- src/lines.rt:130:13
 field-requires : tie.Need-field-requires Inv-loop μ-loop
 field-requires c κs = let l = c .before .before .loop in omega (arith, l .inv .place, l .inv .count, l .inv .turn)
 
--- src/lines.rt:131:21
 number-of-requires : tie.Need-number-of-requires Inv-loop μ-loop
 number-of-requires c κs = search needs
 
--- src/lines.rt:131:9
 mul-values : tie.Need-mul-values Inv-loop μ-loop
 mul-values c = omega (arith, c .before .before .before .before .loop .inv .most)
 
--- src/lines.rt:131:9
 array-write-values : tie.Need-array-write-values Inv-loop μ-loop
 array-write-values c = omega (arith, c .before .before .before .before .loop .inv .most)
 
--- src/lines.rt:132:52
 array-read-fault-of : tie.Need-array-read-fault-of Inv-loop μ-loop
 array-read-fault-of c = search needs
 
--- src/lines.rt:132:32
 fault-of-requires : tie.Need-fault-of-requires Inv-loop μ-loop
 fault-of-requires c κs = search needs
 
--- src/lines.rt:132:9
 earlier-requires : tie.Need-earlier-requires Inv-loop μ-loop
 earlier-requires c κs = search needs
 
--- src/lines.rt:133:9
 next-of-requires : tie.Need-next-of-requires Inv-loop μ-loop
 next-of-requires c κs = search needs
 
--- src/lines.rt:134:9
 add-j : tie.Need-add-j Inv-loop μ-loop
 add-j c = omega (arith, c .before .before .before .before .before .before .before .loop .inv .most)
 
--- src/lines.rt:129:5
 loop-less : tie.Need-loop-less Inv-loop μ-loop
 loop-less c = search needs
 
--- src/lines.rt:129:5
 loop-again : tie.Need-loop-again Inv-loop μ-loop
-loop-again c = 
+loop-again c =
     let l = c .before .before .before .before .before .before .before .loop in
     let a = c .before .before .before .before .before .before .before .before .before .before .args in
     after (a .tag) (a .s .now) (a .at) _ (l .values) (l .fault) (l .c .at) (l .j) (l .inv) (c .before .before .before .before .before .before .loop-test .taken) (c .before .before .before .before .field .result)
     (rw (c .before .before .before .before .before .is-force .ensures) at (c .before .before .before .before .field .ensures)) _ _ _ _ (c .before .before .before .number-of .ensures) (c .before .before .fault-of .ensures) (c .before .earlier .ensures) (c .next-of .ensures)
 
--- src/lines.rt:120:1
 returns : tie.Need-returns Inv-loop μ-loop
-returns c = 
+returns c =
     let l = c .before .loop in
     let e : l .j ≡ fields (c .before .before .before .before .args .tag) = omega (arith, l .inv .turn, l .inv .count) in
     record { fault = rw e at (l .inv .faults); values = rw e at (l .inv .held) }

@@ -1,14 +1,10 @@
 use borrow.Author.Tests.{lt-leb, le-leb}
 use Rattle.reading.proofs.ranges.between.Statement.{statement}
 use Rattle.reading.proofs.ranges.between.Tie as tie
-use Rattle.reading.proofs.ranges.between.Reads as reads
-use Rattle.reading.proofs.ranges.between.Lts as lts
 
--- src/ranges.rt:26:9
 returns : tie.Need-returns
 returns c = simp (lt-leb _ _ (c .if1 .taken))
 
--- src/ranges.rt:22:1
 returns-2 : tie.Need-returns-2
 returns-2 c = simp (le-leb _ _ (c .if1 .left))
 

@@ -1,14 +1,10 @@
 use borrow.Author.Tests.{eq-eqb, ne-eqb}
 use Rattle.reading.proofs.ranges.either.Statement.{statement}
 use Rattle.reading.proofs.ranges.either.Tie as tie
-use Rattle.reading.proofs.ranges.either.Reads as reads
-use Rattle.reading.proofs.ranges.either.Lts as lts
 
--- src/ranges.rt:35:9
 returns : tie.Need-returns
 returns c = simp (eq-eqb _ _ (c .if1 .taken))
 
--- src/ranges.rt:31:1
 returns-2 : tie.Need-returns-2
 returns-2 c = simp (ne-eqb _ _ (c .if1 .left))
 

@@ -1,60 +1,44 @@
 use Rattle.reading.specs.Records.{headerRanges}
 use mathlib.Core.Path.{_∙_}
-use Rattle.reading.proofs.Allowing.{past, tilts, seven, table, at-table}
+use Rattle.reading.proofs.Allowing.{past, tilts}
 use native.Mathlib.Omega.{arith}
 use borrow.Author.Needs.{needs}
 use Rattle.reading.proofs.ranges.header_allows.Statement.{statement}
 use Rattle.reading.proofs.ranges.header_allows.Tie as tie
-use Rattle.reading.proofs.ranges.header_allows.Reads as reads
-use Rattle.reading.proofs.ranges.header_allows.Lts as lts
-use Rattle.reading.proofs.ranges.between.Reads as between-reads
-use Rattle.reading.proofs.ranges.either.Reads as either-reads
 
--- src/ranges.rt:45:9
 between-requires : tie.Need-between-requires
 between-requires c κs = search needs
 
--- src/ranges.rt:45:9
 returns : tie.Need-returns
 returns c = c .between .ensures ∙ past (headerRanges (c .before .before .args .storeys)) (c .before .before .args .j) (c .before .before .args .v) (c .before .if1 .taken)
 
--- src/ranges.rt:48:9
 either-requires : tie.Need-either-requires
 either-requires c κs = search needs
 
--- src/ranges.rt:48:9
 returns-2 : tie.Need-returns-2
 returns-2 c = c .either .ensures ∙ simp (c .before .if2 .taken)
 
--- src/ranges.rt:51:9
 between-requires-2 : tie.Need-between-requires-2
 between-requires-2 c κs = search needs
 
--- src/ranges.rt:51:9
 returns-3 : tie.Need-returns-3
 returns-3 c = c .between2 .ensures ∙ simp (c .before .if3 .taken)
 
--- src/ranges.rt:54:9
 between-requires-3 : tie.Need-between-requires-3
 between-requires-3 c κs = search needs
 
--- src/ranges.rt:54:9
 returns-4 : tie.Need-returns-4
 returns-4 c = c .between3 .ensures ∙ simp (c .before .if4 .taken)
 
--- src/ranges.rt:57:9
 between-requires-4 : tie.Need-between-requires-4
 between-requires-4 c κs = search needs
 
--- src/ranges.rt:57:9
 returns-5 : tie.Need-returns-5
 returns-5 c = c .between4 .ensures ∙ simp (c .before .if5 .taken)
 
--- src/ranges.rt:59:5
 between-requires-5 : tie.Need-between-requires-5
 between-requires-5 c κs = search needs
 
--- src/ranges.rt:41:1
 returns-6 : tie.Need-returns-6
 returns-6 c = let a = c .before .before .before .before .before .before .args in c .between5 .ensures ∙ tilts (a .storeys) (a .j) (a .v) (omega arith) (c .before .before .before .before .if2 .left) (c .before .before .before .if3 .left) (c .before .before .if4 .left) (c .before .if5 .left)
 

@@ -1,37 +1,28 @@
-use Prim.Native.Nat.{ℕ}
 use mathlib.Core.Bool.{true, false}
 use mathlib.Core.Path.{_≡_, _∙_, sym}
 use borrow.Author.Tests.{not-true, not-false, lt-leb, le-leb}
 use Rattle.reading.specs.First.{every}
-use Rattle.reading.specs.declared.records.Tag.the-variants.{B, S, M}
+use Rattle.reading.specs.declared.records.Tag.the-variants.{B, M}
 use Rattle.reading.specs.Records.{inRange, headerValues, headerFault}
 use borrow.Author.Needs.{needs}
 use Rattle.reading.proofs.ranges.header_fault.Statement.{statement}
 use Rattle.reading.proofs.ranges.header_fault.Tie as tie
-use Rattle.reading.proofs.ranges.header_fault.Reads as reads
-use Rattle.reading.proofs.ranges.header_fault.Lts as lts
-use Rattle.reading.proofs.ranges.in_ranges.Reads as in-ranges-reads
 
--- src/ranges.rt:128:9
 in-ranges-requires : tie.Need-in-ranges-requires
 in-ranges-requires c κs = search needs
 
--- src/ranges.rt:129:9
 returns : tie.Need-returns
 unfolding headerFault every
 returns c = let e : every (inRange B (headerValues (c .before .before .args .h))) 6 ≡ false = sym (c .before .in-ranges .ensures) ∙ not-true _ (c .if1 .taken) in simp e
 
--- src/ranges.rt:132:9
 returns-2 : tie.Need-returns-2
 unfolding headerFault every
 returns-2 c = let e : every (inRange B (headerValues (c .before .before .before .before .args .h))) 6 ≡ true = sym (c .before .before .before .in-ranges .ensures) ∙ not-false _ (c .before .before .if1 .left) in simp (e, lt-leb _ _ (c .if2 .taken))
 
--- src/ranges.rt:135:9
 returns-3 : tie.Need-returns-3
 unfolding headerFault every
 returns-3 c = let e : every (inRange B (headerValues (c .before .before .before .before .before .before .args .h))) 6 ≡ true = sym (c .before .before .before .before .before .in-ranges .ensures) ∙ not-false _ (c .before .before .before .before .if1 .left) in simp (e, le-leb _ _ (c .before .before .if2 .left), lt-leb _ _ (c .if3 .taken))
 
--- src/ranges.rt:121:1
 returns-4 : tie.Need-returns-4
 unfolding headerFault every
 returns-4 c = let e : every (inRange B (headerValues (c .before .before .before .before .before .before .args .h))) 6 ≡ true = sym (c .before .before .before .before .before .in-ranges .ensures) ∙ not-false _ (c .before .before .before .before .if1 .left) in simp (e, le-leb _ _ (c .before .before .if2 .left), le-leb _ _ (c .if3 .left))

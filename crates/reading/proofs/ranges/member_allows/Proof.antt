@@ -1,43 +1,31 @@
 use Rattle.reading.specs.Records.{memberRanges}
-use mathlib.Core.Path.{refl, _∙_}
+use mathlib.Core.Path.{_∙_}
 use Rattle.reading.proofs.Allowing.{past, in-tables}
-use native.Mathlib.Omega.{arith}
 use borrow.Author.Needs.{needs}
 use Rattle.reading.proofs.ranges.member_allows.Statement.{statement}
 use Rattle.reading.proofs.ranges.member_allows.Tie as tie
-use Rattle.reading.proofs.ranges.member_allows.Reads as reads
-use Rattle.reading.proofs.ranges.member_allows.Lts as lts
-use Rattle.reading.proofs.ranges.between.Reads as between-reads
 
--- src/ranges.rt:70:9
 between-requires : tie.Need-between-requires
 between-requires c κs = search needs
 
--- src/ranges.rt:70:9
 returns : tie.Need-returns
 returns c = c .between .ensures ∙ past memberRanges (c .before .before .args .j) (c .before .before .args .v) (c .before .if1 .taken)
 
--- src/ranges.rt:72:16
 mul-between : tie.Need-mul-between
 mul-between c = search needs
 
--- src/ranges.rt:72:16
 array-read-between : tie.Need-array-read-between
 array-read-between c = search needs
 
--- src/ranges.rt:72:33
 mul-between-2 : tie.Need-mul-between-2
 mul-between-2 c = search needs
 
--- src/ranges.rt:72:33
 array-read-between-2 : tie.Need-array-read-between-2
 array-read-between-2 c = search needs
 
--- src/ranges.rt:72:5
 between-requires-2 : tie.Need-between-requires-2
 between-requires-2 c κs = search needs
 
--- src/ranges.rt:66:1
 returns-2 : tie.Need-returns-2
 returns-2 c = c .between2 .ensures ∙ in-tables (c .before .before .args .j) (c .before .before .args .v) (c .before .if1 .left)
 

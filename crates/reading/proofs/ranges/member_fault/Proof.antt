@@ -1,32 +1,24 @@
-use Prim.Native.Nat.{ℕ}
 use mathlib.Core.Bool.{true, false}
 use mathlib.Core.Path.{_≡_, _∙_, sym}
 use borrow.Author.Tests.{not-true, not-false, lt-leb, le-leb}
 use Rattle.reading.specs.First.{every}
-use Rattle.reading.specs.declared.records.Tag.the-variants.{B, S, M}
+use Rattle.reading.specs.declared.records.Tag.the-variants.{M}
 use Rattle.reading.specs.Records.{inRange, memberValues, memberFault}
 use borrow.Author.Needs.{needs}
 use Rattle.reading.proofs.ranges.member_fault.Statement.{statement}
 use Rattle.reading.proofs.ranges.member_fault.Tie as tie
-use Rattle.reading.proofs.ranges.member_fault.Reads as reads
-use Rattle.reading.proofs.ranges.member_fault.Lts as lts
-use Rattle.reading.proofs.ranges.in_ranges.Reads as in-ranges-reads
 
--- src/ranges.rt:162:9
 in-ranges-requires : tie.Need-in-ranges-requires
 in-ranges-requires c κs = search needs
 
--- src/ranges.rt:163:9
 returns : tie.Need-returns
 unfolding memberFault every
 returns c = let e : every (inRange M (memberValues (c .before .before .before .args .m))) 26 ≡ false = sym (c .before .in-ranges .ensures) ∙ not-true _ (c .if1 .taken) in simp e
 
--- src/ranges.rt:166:9
 returns-2 : tie.Need-returns-2
 unfolding memberFault every
 returns-2 c = let e : every (inRange M (memberValues (c .before .before .before .before .before .args .m))) 26 ≡ true = sym (c .before .before .before .in-ranges .ensures) ∙ not-false _ (c .before .before .if1 .left) in simp (e, lt-leb _ _ (c .if2 .taken))
 
--- src/ranges.rt:154:1
 returns-3 : tie.Need-returns-3
 unfolding memberFault every
 returns-3 c = let e : every (inRange M (memberValues (c .before .before .before .before .before .args .m))) 26 ≡ true = sym (c .before .before .before .in-ranges .ensures) ∙ not-false _ (c .before .before .if1 .left) in simp (e, le-leb _ _ (c .if2 .left))

@@ -2,45 +2,31 @@ use mathlib.Core.Path.{_∙_}
 use borrow.Author.Needs.{needs}
 use Rattle.reading.proofs.ranges.range_allows.Statement.{statement}
 use Rattle.reading.proofs.ranges.range_allows.Tie as tie
-use Rattle.reading.proofs.ranges.range_allows.Reads as reads
-use Rattle.reading.proofs.ranges.range_allows.Lts as lts
-use Rattle.reading.proofs.ranges.header_allows.Reads as header-allows-reads
-use Rattle.reading.proofs.ranges.member_allows.Reads as member-allows-reads
-use Rattle.reading.proofs.ranges.storey_allows.Reads as storey-allows-reads
 
--- src/ranges.rt:80:19
 enum-told : tie.Need-enum-told
 enum-told c = search needs
 
--- src/ranges.rt:80:19
 header-allows-requires : tie.Need-header-allows-requires
 header-allows-requires c κs = search needs
 
--- src/ranges.rt:81:19
 enum-told-2 : tie.Need-enum-told-2
 enum-told-2 c = search needs
 
--- src/ranges.rt:81:19
 storey-allows-requires : tie.Need-storey-allows-requires
 storey-allows-requires c κs = search needs
 
--- src/ranges.rt:82:19
 enum-told-3 : tie.Need-enum-told-3
 enum-told-3 c = search needs
 
--- src/ranges.rt:82:19
 member-allows-requires : tie.Need-member-allows-requires
 member-allows-requires c κs = search needs
 
--- src/ranges.rt:76:1
 returns : tie.Need-returns
 returns c = c .header-allows .ensures ∙ simp (c .before .enum-told .given .1)
 
--- src/ranges.rt:76:1
 returns-2 : tie.Need-returns-2
 returns-2 c = c .storey-allows .ensures ∙ simp (c .before .enum-told2 .given .1)
 
--- src/ranges.rt:76:1
 returns-3 : tie.Need-returns-3
 returns-3 c = c .member-allows .ensures ∙ simp (c .before .enum-told3 .given .1)
 

@@ -1,35 +1,26 @@
 use Rattle.reading.specs.Records.{storeyRanges}
 use mathlib.Core.Path.{_∙_}
-use Rattle.reading.proofs.Allowing.{past, tilts, seven, table, at-table}
+use Rattle.reading.proofs.Allowing.{past, seven}
 use native.Mathlib.Omega.{arith}
 use borrow.Author.Needs.{needs}
 use Rattle.reading.proofs.ranges.storey_allows.Statement.{statement}
 use Rattle.reading.proofs.ranges.storey_allows.Tie as tie
-use Rattle.reading.proofs.ranges.storey_allows.Reads as reads
-use Rattle.reading.proofs.ranges.storey_allows.Lts as lts
-use Rattle.reading.proofs.ranges.between.Reads as between-reads
 
--- src/ranges.rt:66:9
 between-requires : tie.Need-between-requires
 between-requires c κs = search needs
 
--- src/ranges.rt:66:9
 returns : tie.Need-returns
 returns c = c .between .ensures ∙ past storeyRanges (c .before .before .args .j) (c .before .before .args .v) (c .before .if1 .taken)
 
--- src/ranges.rt:69:9
 between-requires-2 : tie.Need-between-requires-2
 between-requires-2 c κs = search needs
 
--- src/ranges.rt:69:9
 returns-2 : tie.Need-returns-2
 returns-2 c = c .between2 .ensures ∙ simp (c .before .if2 .taken)
 
--- src/ranges.rt:71:5
 between-requires-3 : tie.Need-between-requires-3
 between-requires-3 c κs = search needs
 
--- src/ranges.rt:62:1
 returns-3 : tie.Need-returns-3
 returns-3 c = let a = c .before .before .before .args in c .between3 .ensures ∙ seven (a .j) (a .v) (omega arith) (c .before .if2 .left)
 

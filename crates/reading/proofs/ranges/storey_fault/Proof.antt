@@ -1,27 +1,20 @@
-use Prim.Native.Nat.{ℕ}
 use mathlib.Core.Bool.{true, false}
 use mathlib.Core.Path.{_≡_, _∙_, sym}
-use borrow.Author.Tests.{not-true, not-false, lt-leb, le-leb}
+use borrow.Author.Tests.{not-true, not-false}
 use Rattle.reading.specs.First.{every}
-use Rattle.reading.specs.declared.records.Tag.the-variants.{B, S, M}
+use Rattle.reading.specs.declared.records.Tag.the-variants.{S, M}
 use Rattle.reading.specs.Records.{inRange, storeyValues, storeyFault}
 use borrow.Author.Needs.{needs}
 use Rattle.reading.proofs.ranges.storey_fault.Statement.{statement}
 use Rattle.reading.proofs.ranges.storey_fault.Tie as tie
-use Rattle.reading.proofs.ranges.storey_fault.Reads as reads
-use Rattle.reading.proofs.ranges.storey_fault.Lts as lts
-use Rattle.reading.proofs.ranges.in_ranges.Reads as in-ranges-reads
 
--- src/ranges.rt:147:9
 in-ranges-requires : tie.Need-in-ranges-requires
 in-ranges-requires c κs = search needs
 
--- src/ranges.rt:148:9
 returns : tie.Need-returns
 unfolding storeyFault every
 returns c = let e : every (inRange S (storeyValues (c .before .before .args .s))) 3 ≡ false = sym (c .before .in-ranges .ensures) ∙ not-true _ (c .if1 .taken) in simp e
 
--- src/ranges.rt:141:1
 returns-2 : tie.Need-returns-2
 unfolding storeyFault every
 returns-2 c = let e : every (inRange S (storeyValues (c .before .before .args .s))) 3 ≡ true = sym (c .before .in-ranges .ensures) ∙ not-false _ (c .if1 .left) in simp e

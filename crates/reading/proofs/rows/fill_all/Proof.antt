@@ -1,21 +1,19 @@
 use Prim.Native.Nat.{ℕ, _+_, _-_, _≤_}
 use native.Mathlib.Omega.{arith}
-use lib.ListN.{length, length-set}
+use lib.ListN.{length}
 use borrow.Author.Tests.{ltb-true, ltb-false}
 use mathlib.Core.List.{List, [], _∷_}
-use mathlib.Core.Path.{_≡_, refl, ap, sym, _∙_}
+use mathlib.Core.Path.{_≡_, refl, _∙_}
 use contract.Lifetimes.{Lfts, Shares}
 use contract.Running.{tablesOf}
 use mir.Syntax.{Ty, w8, w64, unsigned, add, lt, tyInt, tyRef, named, erased, imm, mut}
-use mir.Val.{vint}
 use denote.Memory.{pointee}
 use borrow.Author.Needs.{needs}
 use borrow.Kind.MutSlice.{fix-len}
 use borrow.Fn.Args.{vAt}
 use borrow.Fn.World.{World}
 use borrow.Rule.Slice.Mut.{setVals, mslice}
-use borrow.Rule.Slice.Relend.{mslice-owed}
-use borrow.Rule.Slice.Relend.{asMut}
+use borrow.Rule.Slice.Relend.{mslice-owed, asMut}
 use borrow.Table.Row.{Cx, lease, off, alive, sBool, sUnit}
 use borrow.Table.Rows.{sc-here}
 use Rattle.walk.proofs.Walk.{S, fld, _⨾_, _▸_, _◂_, told, _then_, at, slot, from, set, op2, lit, unit, cp, sc, gone, old, forget, falls, test, while, exits, ret, same, u64}
@@ -99,19 +97,50 @@ body κs qs bs =
 
 answers : Answers Says.fill-all K 1 Code.function body
 answers κs qs a good pre bs =
-    ((a .1 .0 .now, 0, 0), refl, (omega arith, before-none _, refl, filled-none _ _)) ◂ λ vs inv. (tt,
-    (λ taken. told (ltb-true (vs .2) (a .1 .1 .0) taken) λ l.
-    (λ _. storey-lies (a .0 .now) (a .1 .1 .0) (pre .0) (vs .2) (vs .1) l (inv .1),
-    λ g. (λ _. tt, λ k.
-    λ γ. (refl,
-    (λ _. members-lie (a .0 .now) (a .1 .1 .0) (pre .0) (vs .2) (vs .1) l (inv .1) (g .1) (k .1) (g .5) (k .5) (length (vs .0)) (omega arith),
-    λ h. (refl, λ back. told (next-small (a .0 .now) (a .1 .1 .0) (pre .0) (vs .2) (vs .1) l (inv .1) (g .1) (k .1) (g .5) (k .5)) λ p.
-    (search needs, (search needs,
-    (a .1 .1 .0 - (vs .2 + 1), omega arith, ((_, vs .1 + k .1, vs .2 + 1), refl,
-    (omega arith, before-next (a .0 .now) (a .1 .1 .0) (pre .0) (vs .2) (vs .1) l (inv .1) (g .1) (k .1) (g .5) (k .5), back ∙ inv .2,
-    filled-next (a .0 .now) (a .1 .1 .0) (pre .0) (vs .2) (vs .1) l (inv .1) (g .1) (k .1) (g .5) (k .5) _ _ _ (inv .3) (h .5)), refl))))))))),
-    λ left. told (ltb-false (vs .2) (a .1 .1 .0) left) λ l.
-    ((refl, (fix-len (a .1 .0 .ptr) (a .1 .0 .name) (vs .0) (a .1 .0 .now) (inv .2), (tt, tt))), filled-all _ _ _ _ _ (inv .3) (inv .0) l)))
+    ((a .1 .0 .now, 0, 0), refl, (omega arith, before-none _, refl, filled-none _ _)) ◂ λ vs inv. (
+      tt,
+      (
+        λ taken. told (ltb-true (vs .2) (a .1 .1 .0) taken) λ l. (
+          λ _. storey-lies (a .0 .now) (a .1 .1 .0) (pre .0) (vs .2) (vs .1) l (inv .1),
+          λ g. (
+            λ _. tt,
+            λ k.
+                λ γ. (
+                  refl,
+                  (
+                    λ _. members-lie (a .0 .now) (a .1 .1 .0) (pre .0) (vs .2) (vs .1) l (inv .1) (g .1) (k .1) (g .5) (k .5) (length (vs .0)) (omega arith),
+                    λ h. (
+                      refl,
+                      λ back. told (next-small (a .0 .now) (a .1 .1 .0) (pre .0) (vs .2) (vs .1) l (inv .1) (g .1) (k .1) (g .5) (k .5)) λ p. (
+                        search needs,
+                        (
+                          search needs,
+                          (
+                            a .1 .1 .0 - (vs .2 + 1),
+                            omega arith,
+                            (
+                              (_, vs .1 + k .1, vs .2 + 1),
+                              refl,
+                              (
+                                omega arith,
+                                before-next (a .0 .now) (a .1 .1 .0) (pre .0) (vs .2) (vs .1) l (inv .1) (g .1) (k .1) (g .5) (k .5),
+                                back ∙ inv .2,
+                                filled-next (a .0 .now) (a .1 .1 .0) (pre .0) (vs .2) (vs .1) l (inv .1) (g .1) (k .1) (g .5) (k .5) _ _ _ (inv .3) (h .5),
+                              ),
+                              refl,
+                            ),
+                          ),
+                        ),
+                      ),
+                    ),
+                  ),
+                ),
+          ),
+        ),
+        λ left. told (ltb-false (vs .2) (a .1 .1 .0) left) λ l.
+            ((refl, (fix-len (a .1 .0 .ptr) (a .1 .0 .name) (vs .0) (a .1 .0 .now) (inv .2), (tt, tt))), filled-all _ _ _ _ _ (inv .3) (inv .0) l),
+      ),
+    )
 
 pub fill-all-spec : {M : Type 1} → statement M
 unfolding Code.routine tablesOf

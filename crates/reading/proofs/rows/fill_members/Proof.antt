@@ -78,14 +78,44 @@ body κs qs bs =
 
 answers : Answers Says.fill-members K 0 Code.function body
 answers κs qs a good pre bs =
-    ((a .1 .0 .now, 0), refl, (omega arith, refl, placed-none _ _ _)) ◂ λ vs inv. (tt,
-    (λ taken. told (ltb-true (vs .1) (a .1 .1 .1 .1 .0) taken) λ l.
-    (search needs, (search needs, (λ _. (omega arith, omega arith, omega arith),
-    λ g. (search needs, (tt, ((refl, refl, omega arith), (search needs,
-    (a .1 .1 .1 .1 .0 - (vs .1 + 1), omega arith, ((setL (vs .0) (a .1 .1 .1 .0 + vs .1) (g .1), vs .1 + 1), refl,
-    (omega arith, length-set (vs .0) (a .1 .1 .1 .0 + vs .1) (g .1) ∙ inv .1, placed-step _ _ _ (vs .1) _ _ _ (inv .2) (g .5) refl), refl))))))))),
-    λ left. told (ltb-false (vs .1) (a .1 .1 .1 .1 .0) left) λ l.
-    ((refl, (fix-len (a .1 .0 .ptr) (a .1 .0 .name) (vs .0) (a .1 .0 .now) (inv .1), (tt, (tt, (tt, tt))))), placed-all _ _ _ (vs .1) _ _ (inv .2) (inv .0) l)))
+    ((a .1 .0 .now, 0), refl, (omega arith, refl, placed-none _ _ _)) ◂ λ vs inv. (
+      tt,
+      (
+        λ taken. told (ltb-true (vs .1) (a .1 .1 .1 .1 .0) taken) λ l. (
+          search needs,
+          (
+            search needs,
+            (
+              λ _. (omega arith, omega arith, omega arith),
+              λ g. (
+                search needs,
+                (
+                  tt,
+                  (
+                    (refl, refl, omega arith),
+                    (
+                      search needs,
+                      (
+                        a .1 .1 .1 .1 .0 - (vs .1 + 1),
+                        omega arith,
+                        (
+                          (setL (vs .0) (a .1 .1 .1 .0 + vs .1) (g .1), vs .1 + 1),
+                          refl,
+                          (omega arith, length-set (vs .0) (a .1 .1 .1 .0 + vs .1) (g .1) ∙ inv .1, placed-step _ _ _ (vs .1) _ _ _ (inv .2) (g .5) refl),
+                          refl,
+                        ),
+                      ),
+                    ),
+                  ),
+                ),
+              ),
+            ),
+          ),
+        ),
+        λ left. told (ltb-false (vs .1) (a .1 .1 .1 .1 .0) left) λ l.
+            ((refl, (fix-len (a .1 .0 .ptr) (a .1 .0 .name) (vs .0) (a .1 .0 .now) (inv .1), (tt, (tt, (tt, tt))))), placed-all _ _ _ (vs .1) _ _ (inv .2) (inv .0) l),
+      ),
+    )
 
 pub fill-members-spec : {M : Type 1} → statement M
 unfolding Code.routine tablesOf

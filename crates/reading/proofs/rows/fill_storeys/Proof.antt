@@ -3,7 +3,7 @@ use native.Mathlib.Omega.{arith}
 use lib.ListN.{length, set as setL, length-set}
 use borrow.Author.Tests.{ltb-true, ltb-false}
 use mathlib.Core.List.{List, [], _∷_}
-use mathlib.Core.Path.{_≡_, refl, ap, sym, _∙_}
+use mathlib.Core.Path.{_≡_, refl, _∙_}
 use contract.Lifetimes.{Lfts, Shares}
 use contract.Running.{tablesOf}
 use mir.Syntax.{Ty, w8, w64, unsigned, mul, add, lt, offset, tyInt, tyRef, named, imm}
@@ -85,18 +85,49 @@ body κs qs bs =
 
 answers : Answers Says.fill-storeys K 0 Code.function body
 answers κs qs a good pre bs =
-    ((a .1 .0 .now, 0, 0), refl, (omega arith, before-none _, refl, placed-none _ _ _)) ◂ λ vs inv. (tt,
-    (λ taken. told (ltb-true (vs .2) (a .1 .1 .0) taken) λ l.
-    (λ _. storey-lies (a .0 .now) (a .1 .1 .0) (pre .0) (vs .2) (vs .1) l (inv .1),
-    λ g. (search needs, (tt, ((refl, refl, omega arith),
-    (λ _. tt, λ k. told (next-small (a .0 .now) (a .1 .1 .0) (pre .0) (vs .2) (vs .1) l (inv .1) (g .1) (k .1) (g .5) (k .5)) λ p.
-    (search needs, (search needs,
-    (a .1 .1 .0 - (vs .2 + 1), omega arith, ((setL (vs .0) (vs .2) (g .1), vs .1 + k .1, vs .2 + 1), refl,
-    (omega arith, before-next (a .0 .now) (a .1 .1 .0) (pre .0) (vs .2) (vs .1) l (inv .1) (g .1) (k .1) (g .5) (k .5),
-    length-set (vs .0) (vs .2) (g .1) ∙ inv .2,
-    placed-step _ _ _ (vs .2) _ _ _ (inv .3) (storey-is (a .0 .now) (a .1 .1 .0) (pre .0) (vs .2) (vs .1) l (inv .1) (g .1) (k .1) (g .5) (k .5)) (omega arith)), refl))))))))),
-    λ left. told (ltb-false (vs .2) (a .1 .1 .0) left) λ l.
-    ((refl, (fix-len (a .1 .0 .ptr) (a .1 .0 .name) (vs .0) (a .1 .0 .now) (inv .2), (tt, tt))), placed-all _ _ _ (vs .2) _ _ (inv .3) (inv .0) l)))
+    ((a .1 .0 .now, 0, 0), refl, (omega arith, before-none _, refl, placed-none _ _ _)) ◂ λ vs inv. (
+      tt,
+      (
+        λ taken. told (ltb-true (vs .2) (a .1 .1 .0) taken) λ l. (
+          λ _. storey-lies (a .0 .now) (a .1 .1 .0) (pre .0) (vs .2) (vs .1) l (inv .1),
+          λ g. (
+            search needs,
+            (
+              tt,
+              (
+                (refl, refl, omega arith),
+                (
+                  λ _. tt,
+                  λ k. told (next-small (a .0 .now) (a .1 .1 .0) (pre .0) (vs .2) (vs .1) l (inv .1) (g .1) (k .1) (g .5) (k .5)) λ p. (
+                    search needs,
+                    (
+                      search needs,
+                      (
+                        a .1 .1 .0 - (vs .2 + 1),
+                        omega arith,
+                        (
+                          (setL (vs .0) (vs .2) (g .1), vs .1 + k .1, vs .2 + 1),
+                          refl,
+                          (
+                            omega arith,
+                            before-next (a .0 .now) (a .1 .1 .0) (pre .0) (vs .2) (vs .1) l (inv .1) (g .1) (k .1) (g .5) (k .5),
+                            length-set (vs .0) (vs .2) (g .1) ∙ inv .2,
+                            placed-step _ _ _ (vs .2) _ _ _ (inv .3) (storey-is (a .0 .now) (a .1 .1 .0) (pre .0) (vs .2) (vs .1) l (inv .1) (g .1) (k .1) (g .5) (k .5)) (omega arith),
+                          ),
+                          refl,
+                        ),
+                      ),
+                    ),
+                  ),
+                ),
+              ),
+            ),
+          ),
+        ),
+        λ left. told (ltb-false (vs .2) (a .1 .1 .0) left) λ l.
+            ((refl, (fix-len (a .1 .0 .ptr) (a .1 .0 .name) (vs .0) (a .1 .0 .now) (inv .2), (tt, tt))), placed-all _ _ _ (vs .2) _ _ (inv .3) (inv .0) l),
+      ),
+    )
 
 pub fill-storeys-spec : {M : Type 1} → statement M
 unfolding Code.routine tablesOf

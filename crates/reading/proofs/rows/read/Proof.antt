@@ -1,13 +1,11 @@
 use Prim.Native.Nat.{ℕ}
 use mathlib.Core.List.{List, [], _∷_}
 use lib.ListN.{length}
-use mathlib.Core.Path.{_≡_, refl, ap, sym, _∙_}
+use mathlib.Core.Path.{_≡_, refl, ap, _∙_}
 use contract.Lifetimes.{Lfts, Shares}
 use contract.Running.{tablesOf}
-use mir.Syntax.{Ty, w8, w64, tyInt, tyRef, named, erased, imm, mut}
-use mir.Val.{vint}
+use mir.Syntax.{Ty, w8, tyInt, tyRef, named, erased, imm, mut}
 use denote.Memory.{pointee}
-use borrow.Author.Needs.{needs}
 use borrow.Kind.MutSlice.{fix-len}
 use borrow.Fn.Args.{vAt}
 use borrow.Fn.World.{World}
@@ -112,13 +110,37 @@ body κs qs bs =
     ret tt)))
 
 answers : Answers Says.read K 2 Code.function body
-answers κs qs a good pre bs =
-    (λ _. tt, λ g. (λ _. tt, λ k. told (count-told (a .0 .now) (length (a .1 .0 .now)) (length (a .1 .1 .0 .now)) (k .1) (tells (g .1 .answer)) (k .5) (g .5)) λ q.
-    told (lies (a .0 .now) (length (a .1 .0 .now)) (length (a .1 .1 .0 .now)) (k .1) q) λ f.
-    λ γ. (refl, (λ _. (f .0, f .1), λ h. (refl, λ back.
-    λ γ. (refl, (λ _. (f .0, f .2), λ i. (refl, λ last.
-    ((refl, (fix-len (a .1 .0 .ptr) (a .1 .0 .name) (h .2 .1 .0) (a .1 .0 .now) back, (fix-len (a .1 .1 .0 .ptr) (a .1 .1 .0 .name) (i .2 .1 .0) (a .1 .1 .0 .now) last, tt))),
-    (g .5, (h .5 ∙ storeys-are (a .0 .now) (length (a .1 .0 .now)) (length (a .1 .1 .0 .now)) (k .1) (storeyBy (λ _. 0)) (a .1 .0 .now) q refl, i .5 ∙ members-are (a .0 .now) (length (a .1 .0 .now)) (length (a .1 .1 .0 .now)) (k .1) (memberBy (λ _. 0)) (a .1 .1 .0 .now) q refl)))))))))))
+answers κs qs a good pre bs = (
+  λ _. tt,
+  λ g. (
+    λ _. tt,
+    λ k. told (count-told (a .0 .now) (length (a .1 .0 .now)) (length (a .1 .1 .0 .now)) (k .1) (tells (g .1 .answer)) (k .5) (g .5)) λ q.
+        told (lies (a .0 .now) (length (a .1 .0 .now)) (length (a .1 .1 .0 .now)) (k .1) q) λ f.
+        λ γ. (
+          refl,
+          (
+            λ _. (f .0, f .1),
+            λ h. (
+              refl,
+              λ back.
+                  λ γ. (
+                    refl,
+                    (
+                      λ _. (f .0, f .2),
+                      λ i. (
+                        refl,
+                        λ last. (
+                          (refl, (fix-len (a .1 .0 .ptr) (a .1 .0 .name) (h .2 .1 .0) (a .1 .0 .now) back, (fix-len (a .1 .1 .0 .ptr) (a .1 .1 .0 .name) (i .2 .1 .0) (a .1 .1 .0 .now) last, tt))),
+                          (g .5, (h .5 ∙ storeys-are (a .0 .now) (length (a .1 .0 .now)) (length (a .1 .1 .0 .now)) (k .1) (storeyBy (λ _. 0)) (a .1 .0 .now) q refl, i .5 ∙ members-are (a .0 .now) (length (a .1 .0 .now)) (length (a .1 .1 .0 .now)) (k .1) (memberBy (λ _. 0)) (a .1 .1 .0 .now) q refl)),
+                        ),
+                      ),
+                    ),
+                  ),
+            ),
+          ),
+        ),
+  ),
+)
 
 pub read-spec : {M : Type 1} → statement M
 unfolding Code.routine tablesOf

@@ -1,14 +1,10 @@
-use Prim.Native.Nat.{ℕ, _+_, _-_, _^_, _≤_, _<_}
-use mathlib.Core.Path.{_≡_, refl, sym, _∙_}
-use native.Mathlib.Omega.{arith}
+use Prim.Native.Nat.{_-_}
+use mathlib.Core.Path.{_≡_, refl, _∙_}
 use borrow.Author.Needs.{needs}
-use lib.ListN.{length, take, drop, getD}
 use Rattle.reading.specs.Spelling.{column}
 use Rattle.reading.proofs.Columns.{column-units, column-sign, column-blank, column-tenth}
 use Rattle.reading.proofs.spelling.column_of.Statement.{statement}
 use Rattle.reading.proofs.spelling.column_of.Tie as tie
-use Rattle.reading.proofs.spelling.column_of.Reads as reads
-use Rattle.reading.proofs.spelling.column_of.Lts as lts
 
 abbrev Inv-loop : tie.InvT-loop
 Inv-loop sign n j q₀ k₀ q k = column sign q k ≡ column sign n j
@@ -16,39 +12,30 @@ Inv-loop sign n j q₀ k₀ q k = column sign q k ≡ column sign n j
 abbrev μ-loop : tie.MeasureT-loop
 μ-loop sign n j q₀ k₀ q k = k
 
--- src/spelling.rt:13:5
 loop-holds : tie.Need-loop-holds Inv-loop μ-loop
 loop-holds c = refl
 
--- src/spelling.rt:16:17
 returns : tie.Need-returns Inv-loop μ-loop
 returns c = column-sign _ _ _ (c .before .if1 .taken) (c .if2 .taken) ∙ c .before .before .before .loop .inv
 
--- src/spelling.rt:18:13
 returns-2 : tie.Need-returns-2 Inv-loop μ-loop
 returns-2 c = column-blank _ _ _ (c .before .if1 .taken) (c .before .before .loop-test .taken) (c .if2 .left) ∙ c .before .before .before .loop .inv
 
--- src/spelling.rt:21:9
 sub-k : tie.Need-sub-k Inv-loop μ-loop
 sub-k c = search needs
 
--- src/spelling.rt:13:5
 loop-less : tie.Need-loop-less Inv-loop μ-loop
 loop-less c = search needs
 
--- src/spelling.rt:13:5
 loop-again : tie.Need-loop-again Inv-loop μ-loop
 loop-again c = column-tenth _ _ _ (c .if1 .left) (c .before .loop-test .taken) ∙ c .before .before .loop .inv
 
--- src/spelling.rt:23:12
 cast-result : tie.Need-cast-result Inv-loop μ-loop
 cast-result c = search needs
 
--- src/spelling.rt:23:5
 add-result : tie.Need-add-result Inv-loop μ-loop
 add-result c = search needs
 
--- src/spelling.rt:8:1
 returns-3 : tie.Need-returns-3 Inv-loop μ-loop
 returns-3 c = column-units _ _ _ (c .loop-test .left) ∙ c .before .loop .inv
 

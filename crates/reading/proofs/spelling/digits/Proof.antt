@@ -1,5 +1,5 @@
-use Prim.Native.Nat.{ℕ, _+_, _-_, _^_, _≤_, _<_}
-use mathlib.Core.Path.{_≡_, refl, sym, _∙_}
+use Prim.Native.Nat.{_+_, _-_, _^_, _≤_, _<_}
+use mathlib.Core.Path.{_≡_, sym, _∙_}
 use native.Mathlib.Omega.{arith}
 use borrow.Author.Needs.{needs}
 use lib.ListN.{length, take, drop, getD}
@@ -7,9 +7,6 @@ use Rattle.reading.specs.Spelling.{value}
 use Rattle.reading.proofs.Columns.{value-step, value-none, pushed-small, eight}
 use Rattle.reading.proofs.spelling.digits.Statement.{statement}
 use Rattle.reading.proofs.spelling.digits.Tie as tie
-use Rattle.reading.proofs.spelling.digits.Reads as reads
-use Rattle.reading.proofs.spelling.digits.Lts as lts
-use Rattle.reading.proofs.spelling.push.Reads as push-reads
 
 abbrev Inv-loop : tie.InvT-loop
 Inv-loop s at v₀ i₀ v i = (i ≤ 8) × (v < 10 ^ i) × (value v (take (8 - i) (drop (at + i) s)) ≡ value 0 (take 8 (drop at s)))
@@ -17,44 +14,37 @@ Inv-loop s at v₀ i₀ v i = (i ≤ 8) × (v < 10 ^ i) × (value v (take (8 - i
 abbrev μ-loop : tie.MeasureT-loop
 μ-loop s at v₀ i₀ v i = 8 - i
 
--- src/spelling.rt:64:5
 loop-holds : tie.Need-loop-holds Inv-loop μ-loop
 loop-holds c = let e : c .before .args .at + 0 ≡ c .before .args .at = omega arith in (omega arith, omega arith, rw e)
 
--- src/spelling.rt:65:23
 add-push : tie.Need-add-push Inv-loop μ-loop
 add-push c = search needs
 
--- src/spelling.rt:65:21
 shared-slice-read-push : tie.Need-shared-slice-read-push Inv-loop μ-loop
 shared-slice-read-push c = search needs
 
--- src/spelling.rt:65:9
 push-requires : tie.Need-push-requires Inv-loop μ-loop
 push-requires c κs = let l = c .before .before .loop in eight (l .v) (l .i) (l .inv .1) (l .inv .0)
 
--- src/spelling.rt:66:9
 add-i : tie.Need-add-i Inv-loop μ-loop
 add-i c = search needs
 
--- src/spelling.rt:64:5
 loop-less : tie.Need-loop-less Inv-loop μ-loop
 loop-less c = search needs
 
--- src/spelling.rt:64:5
 loop-again : tie.Need-loop-again Inv-loop μ-loop
-loop-again c = 
+loop-again c =
     let l = c .before .before .before .loop in
     let a = c .before .before .before .before .before .args in
     let h : l .i < 8 = omega arith in
-    let g : a .at + l .i < length (a .s .now) = omega arith in
-    (omega arith
-    , rw (c .push .ensures) (pushed-small (l .v) (getD (a .s .now) (a .at + l .i) 0) (l .i) (l .inv .1))
-    , rw (c .push .ensures) (value-step (a .s .now) (a .at) (l .i) (l .v) _ h g (l .inv .2)))
+    let g : a .at + l .i < length (a .s .now) = omega arith in (
+      omega arith,
+      rw (c .push .ensures) (pushed-small (l .v) (getD (a .s .now) (a .at + l .i) 0) (l .i) (l .inv .1)),
+      rw (c .push .ensures) (value-step (a .s .now) (a .at) (l .i) (l .v) _ h g (l .inv .2)),
+    )
 
--- src/spelling.rt:58:1
 returns : tie.Need-returns Inv-loop μ-loop
-returns c = 
+returns c =
     let l = c .before .loop in
     let a = c .before .before .before .args in
     let e : 8 - l .i ≡ 0 = omega arith in

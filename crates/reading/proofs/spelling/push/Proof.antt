@@ -2,30 +2,22 @@ use borrow.Author.Tests.{lt-leb, le-leb}
 use borrow.Author.Needs.{needs}
 use Rattle.reading.proofs.spelling.push.Statement.{statement}
 use Rattle.reading.proofs.spelling.push.Tie as tie
-use Rattle.reading.proofs.spelling.push.Reads as reads
-use Rattle.reading.proofs.spelling.push.Lts as lts
 
--- src/spelling.rt:49:9
 returns : tie.Need-returns
 returns c = simp (lt-leb _ _ (c .if1 .taken))
 
--- src/spelling.rt:52:9
 returns-2 : tie.Need-returns-2
 returns-2 c = simp (le-leb _ _ (c .before .if1 .left), lt-leb _ _ (c .if2 .taken))
 
--- src/spelling.rt:54:5
 mul-result : tie.Need-mul-result
 mul-result c = search needs
 
--- src/spelling.rt:54:15
 sub-result : tie.Need-sub-result
 sub-result c = search needs
 
--- src/spelling.rt:54:5
 add-result : tie.Need-add-result
 add-result c = search needs
 
--- src/spelling.rt:44:1
 returns-3 : tie.Need-returns-3
 returns-3 c = simp (le-leb _ _ (c .before .if1 .left), le-leb _ _ (c .if2 .left))
 

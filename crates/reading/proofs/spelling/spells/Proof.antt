@@ -1,15 +1,12 @@
-use Prim.Native.Nat.{ℕ, _+_, _-_, _^_, _≤_, _<_}
+use Prim.Native.Nat.{_+_, _-_}
 use mathlib.Core.Path.{_≡_, refl, sym, _∙_}
 use native.Mathlib.Omega.{arith}
 use borrow.Author.Needs.{needs}
-use lib.ListN.{length, take, drop, getD}
+use lib.ListN.{take, drop}
 use Rattle.reading.specs.Spelling.{same, spelled}
 use Rattle.reading.proofs.Columns.{same-none, same-differs, same-step}
 use Rattle.reading.proofs.spelling.spells.Statement.{statement}
 use Rattle.reading.proofs.spelling.spells.Tie as tie
-use Rattle.reading.proofs.spelling.spells.Reads as reads
-use Rattle.reading.proofs.spelling.spells.Lts as lts
-use Rattle.reading.proofs.spelling.column_of.Reads as column-of-reads
 
 abbrev Inv-loop : tie.InvT-loop
 Inv-loop s at w sign n p₀ left₀ p left = (p + left ≡ at + w) × (same (take left (drop p s)) (spelled left sign n) ≡ same (take w (drop at s)) (spelled w sign n))
@@ -17,45 +14,36 @@ Inv-loop s at w sign n p₀ left₀ p left = (p + left ≡ at + w) × (same (tak
 abbrev μ-loop : tie.MeasureT-loop
 μ-loop s at w sign n p₀ left₀ p left = left
 
--- src/spelling.rt:33:5
 loop-holds : tie.Need-loop-holds Inv-loop μ-loop
 loop-holds c = (refl, refl)
 
--- src/spelling.rt:34:9
 sub-left : tie.Need-sub-left Inv-loop μ-loop
 sub-left c = search needs
 
--- src/spelling.rt:35:12
 shared-slice-read-if1 : tie.Need-shared-slice-read-if1 Inv-loop μ-loop
 shared-slice-read-if1 c = search needs
 
--- src/spelling.rt:35:20
 column-of-requires : tie.Need-column-of-requires Inv-loop μ-loop
 column-of-requires c κs = search needs
 
--- src/spelling.rt:36:13
 returns : tie.Need-returns Inv-loop μ-loop
-returns c = 
+returns c =
     let l = c .before .before .before .before .loop in
     let a = c .before .before .before .before .before .before .args in
     same-differs (a .s .now) (l .p) (l .left) (a .sign) (a .n) _ (omega arith) (omega arith) (λ e. c .if1 .taken (e ∙ sym (c .before .column-of .ensures))) (l .inv .1)
 
--- src/spelling.rt:38:9
 add-p : tie.Need-add-p Inv-loop μ-loop
 add-p c = search needs
 
--- src/spelling.rt:33:5
 loop-less : tie.Need-loop-less Inv-loop μ-loop
 loop-less c = search needs
 
--- src/spelling.rt:33:5
 loop-again : tie.Need-loop-again Inv-loop μ-loop
-loop-again c = 
+loop-again c =
     let l = c .before .before .before .before .loop in
     let a = c .before .before .before .before .before .before .args in
     (omega arith, same-step (a .s .now) (l .p) (l .left) (a .sign) (a .n) _ (omega arith) (omega arith) (c .if1 .left ∙ c .before .column-of .ensures) (l .inv .1))
 
--- src/spelling.rt:27:1
 returns-2 : tie.Need-returns-2 Inv-loop μ-loop
 returns-2 c = same-none _ _ _ _ (c .loop-test .left) ∙ c .before .loop .inv .1
 

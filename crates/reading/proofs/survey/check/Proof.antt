@@ -1,41 +1,29 @@
-use mathlib.Core.Path.{_≡_, refl, sym, ap, _∙_}
+use mathlib.Core.Path.{sym, ap, _∙_}
 use native.Mathlib.Omega.{arith}
 use Rattle.reading.specs.declared.records.Header.{Header}
 use Rattle.reading.proofs.Numbers.{header-number, checked-number, ten-storeys, told-header, told-later, told-accepted}
 use borrow.Author.Needs.{needs}
 use Rattle.reading.proofs.survey.check.Statement.{statement}
 use Rattle.reading.proofs.survey.check.Tie as tie
-use Rattle.reading.proofs.survey.check.Reads as reads
-use Rattle.reading.proofs.survey.check.Lts as lts
-use Rattle.reading.proofs.refusal.refusal_of.Reads as refusal-of-reads
-use Rattle.reading.proofs.survey.header_line.Reads as header-line-reads
-use Rattle.reading.proofs.survey.storeys_fault.Reads as storeys-fault-reads
 
--- src/survey.rt:248:9
 header-line-requires : tie.Need-header-line-requires
 header-line-requires c κs = search needs
 
--- src/survey.rt:250:13
 refusal-of-requires : tie.Need-refusal-of-requires
 refusal-of-requires c κs = header-number (c .before .before .before .before .args .s .now) _ (c .before .before .header-line .ensures .fault) (c .if1 .taken)
 
--- src/survey.rt:251:9
 returns : tie.Need-returns
 returns c = rw (c .refusal-of .ensures) (told-header (c .before .before .before .before .before .args .s .now) (c .before .before .before .before .before .args .srows) (c .before .before .before .before .before .args .mrows) _ (c .before .before .before .header-line .ensures .fault) (c .before .if1 .taken))
 
--- src/survey.rt:260:9
 storeys-fault-requires : tie.Need-storeys-fault-requires
 storeys-fault-requires c κs = let k = ap (λ (h : Header). h .count) (c .before .before .before .header-line .ensures .holds (c .before .if1 .left)) in omega (arith, ten-storeys (c .before .before .before .before .before .args .s .now) (sym (c .before .before .before .header-line .ensures .fault) ∙ c .before .if1 .left), k)
 
--- src/survey.rt:262:13
 refusal-of-requires-2 : tie.Need-refusal-of-requires-2
 refusal-of-requires-2 c κs = checked-number _ _ _ _ _ (c .before .before .storeys-fault .ensures) (c .if2 .taken)
 
--- src/survey.rt:263:9
 returns-2 : tie.Need-returns-2
 returns-2 c = let k = ap (λ (h : Header). h .count) (c .before .before .before .before .before .before .before .header-line .ensures .holds (c .before .before .before .before .before .if1 .left)) in rw (c .refusal-of2 .ensures) (told-later (c .before .before .before .before .before .before .before .before .before .args .s .now) (c .before .before .before .before .before .before .before .before .before .args .srows) (c .before .before .before .before .before .before .before .before .before .args .mrows) _ _ (sym (c .before .before .before .before .before .before .before .header-line .ensures .fault) ∙ c .before .before .before .before .before .if1 .left) k (c .before .before .before .storeys-fault .ensures) (c .before .if2 .taken))
 
--- src/survey.rt:245:1
 returns-3 : tie.Need-returns-3
 returns-3 c = let k = ap (λ (h : Header). h .count) (c .before .before .before .before .before .before .header-line .ensures .holds (c .before .before .before .before .if1 .left)) in told-accepted (c .before .before .before .before .before .before .before .before .args .s .now) (c .before .before .before .before .before .before .before .before .args .srows) (c .before .before .before .before .before .before .before .before .args .mrows) _ _ (sym (c .before .before .before .before .before .before .header-line .ensures .fault) ∙ c .before .before .before .before .if1 .left) k (c .before .before .storeys-fault .ensures) _ (c .before .before .before .before .before .before .header-line .ensures .holds (c .before .before .before .before .if1 .left)) (c .if2 .left)
 

@@ -6,39 +6,25 @@ use Rattle.reading.specs.declared.records.Tag.the-variants.{B}
 use borrow.Author.Needs.{needs}
 use Rattle.reading.proofs.survey.header_line.Statement.{statement}
 use Rattle.reading.proofs.survey.header_line.Tie as tie
-use Rattle.reading.proofs.survey.header_line.Reads as reads
-use Rattle.reading.proofs.survey.header_line.Lts as lts
-use Rattle.reading.proofs.lines.earlier.Reads as earlier-reads
-use Rattle.reading.proofs.lines.header_of.Reads as header-of-reads
-use Rattle.reading.proofs.lines.is_shaped.Reads as is-shaped-reads
-use Rattle.reading.proofs.lines.read_fields.Reads as read-fields-reads
-use Rattle.reading.proofs.ranges.header_fault.Reads as header-fault-reads
 
--- src/survey.rt:49:9
 is-shaped-requires : tie.Need-is-shaped-requires
 is-shaped-requires c κs = search needs
 
--- src/survey.rt:50:9
 returns : tie.Need-returns
 returns c = header-unshaped _ _ (sym (c .before .is-shaped .ensures) ∙ not-true _ (c .if1 .taken))
 
--- src/survey.rt:62:9
 read-fields-requires : tie.Need-read-fields-requires
 read-fields-requires c κs = omega (arith, shaped-fits B (c .before .before .before .args .s .now) 0 (sym (c .before .is-shaped .ensures) ∙ not-false _ (c .if1 .left)))
 
--- src/survey.rt:64:9
 header-of-requires : tie.Need-header-of-requires
 header-of-requires c κs = search needs
 
--- src/survey.rt:66:33
 header-fault-requires : tie.Need-header-fault-requires
 header-fault-requires c κs = search needs
 
--- src/survey.rt:66:16
 earlier-requires : tie.Need-earlier-requires
 earlier-requires c κs = search needs
 
--- src/survey.rt:46:1
 returns-2 : tie.Need-returns-2
 returns-2 c = header-shaped _ (c .before .before .before .before .read-fields .result) (c .before .before .header-of .result) _ _ (sym (c .before .before .before .before .before .before .is-shaped .ensures) ∙ not-false _ (c .before .before .before .before .before .if1 .left)) (c .before .before .before .before .read-fields .ensures) (c .before .before .header-of .ensures) (c .before .header-fault .ensures) (c .earlier .ensures)
 

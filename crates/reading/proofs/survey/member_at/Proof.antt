@@ -2,25 +2,16 @@ use Rattle.reading.proofs.Held.{member-held}
 use borrow.Author.Needs.{needs}
 use Rattle.reading.proofs.survey.member_at.Statement.{statement}
 use Rattle.reading.proofs.survey.member_at.Tie as tie
-use Rattle.reading.proofs.survey.member_at.Reads as reads
-use Rattle.reading.proofs.survey.member_at.Lts as lts
-use Rattle.reading.proofs.lines.member_of.Reads as member-of-reads
-use Rattle.reading.proofs.lines.read_fields.Reads as read-fields-reads
-use Rattle.reading.proofs.survey.place_of.Reads as place-of-reads
 
--- src/survey.rt:296:28
 place-of-requires : tie.Need-place-of-requires
 place-of-requires c κs = search needs
 
--- src/survey.rt:296:9
 read-fields-requires : tie.Need-read-fields-requires
 read-fields-requires c κs = search needs
 
--- src/survey.rt:298:5
 member-of-requires : tie.Need-member-of-requires
 member-of-requires c κs = search needs
 
--- src/survey.rt:292:1
 returns : tie.Need-returns
 returns c = member-held _ _ (c .before .before .read-fields .result) (c .member-of .result) (rw (c .before .before .before .place-of .ensures) at (c .before .before .read-fields .ensures)) (c .member-of .ensures)
 

@@ -6,43 +6,28 @@ use Rattle.reading.specs.declared.records.Tag.the-variants.{M}
 use borrow.Author.Needs.{needs}
 use Rattle.reading.proofs.survey.member_line.Statement.{statement}
 use Rattle.reading.proofs.survey.member_line.Tie as tie
-use Rattle.reading.proofs.survey.member_line.Reads as reads
-use Rattle.reading.proofs.survey.member_line.Lts as lts
-use Rattle.reading.proofs.lines.earlier.Reads as earlier-reads
-use Rattle.reading.proofs.lines.is_shaped.Reads as is-shaped-reads
-use Rattle.reading.proofs.lines.member_of.Reads as member-of-reads
-use Rattle.reading.proofs.lines.read_fields.Reads as read-fields-reads
-use Rattle.reading.proofs.ranges.member_fault.Reads as member-fault-reads
 
--- src/survey.rt:105:9
 is-shaped-requires : tie.Need-is-shaped-requires
 is-shaped-requires c κs = search needs
 
--- src/survey.rt:106:9
 returns : tie.Need-returns
 returns c = member-unshaped _ _ _ (sym (c .before .is-shaped .ensures) ∙ not-true _ (c .if1 .taken))
 
--- src/survey.rt:112:9
 returns-2 : tie.Need-returns-2
 returns-2 c = member-unheld _ _ _ (sym (c .before .before .is-shaped .ensures) ∙ not-false _ (c .before .if1 .left)) (not-true _ (c .if2 .taken))
 
--- src/survey.rt:117:9
 read-fields-requires : tie.Need-read-fields-requires
 read-fields-requires c κs = omega (arith, shaped-fits M (c .before .before .before .before .args .s .now) (c .before .before .before .before .args .at) (sym (c .before .before .is-shaped .ensures) ∙ not-false _ (c .before .if1 .left)))
 
--- src/survey.rt:119:9
 member-of-requires : tie.Need-member-of-requires
 member-of-requires c κs = search needs
 
--- src/survey.rt:121:33
 member-fault-requires : tie.Need-member-fault-requires
 member-fault-requires c κs = search needs
 
--- src/survey.rt:121:16
 earlier-requires : tie.Need-earlier-requires
 earlier-requires c κs = search needs
 
--- src/survey.rt:102:1
 returns-3 : tie.Need-returns-3
 returns-3 c = member-shaped _ _ _ (c .before .before .before .before .read-fields .result) (c .before .before .member-of .result) _ _ (sym (c .before .before .before .before .before .before .before .is-shaped .ensures) ∙ not-false _ (c .before .before .before .before .before .before .if1 .left)) (not-false _ (c .before .before .before .before .before .if2 .left)) (c .before .before .before .before .read-fields .ensures) (c .before .before .member-of .ensures) (c .before .member-fault .ensures) (c .earlier .ensures)
 

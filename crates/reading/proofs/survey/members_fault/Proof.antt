@@ -1,17 +1,10 @@
-use Prim.Native.Nat.{ℕ, _+_, _-_, _*_, _≤_, _<_}
-use mathlib.Core.Path.{_≡_, refl, sym, _∙_}
+use Prim.Native.Nat.{_-_}
+use mathlib.Core.Path.{refl}
 use native.Mathlib.Omega.{arith}
 use borrow.Author.Needs.{needs}
-use lib.ListN.{length, take, drop, getD}
 use Rattle.reading.proofs.Storeys.{Turn, turn-first, turn-stops, turn-next, turn-last}
 use Rattle.reading.proofs.survey.members_fault.Statement.{statement}
 use Rattle.reading.proofs.survey.members_fault.Tie as tie
-use Rattle.reading.proofs.survey.members_fault.Reads as reads
-use Rattle.reading.proofs.survey.members_fault.Lts as lts
-use Rattle.reading.proofs.lines.earlier.Reads as earlier-reads
-use Rattle.reading.proofs.survey.member_line.Reads as member-line-reads
-use Rattle.reading.proofs.survey.place_of.Reads as place-of-reads
-use Rattle.reading.proofs.survey.repeat_fault.Reads as repeat-fault-reads
 
 abbrev Inv-loop : tie.InvT-loop
 Inv-loop s i m count rows numbers₀ j₀ numbers j = Turn s rows i m count numbers j
@@ -19,75 +12,57 @@ Inv-loop s i m count rows numbers₀ j₀ numbers j = Turn s rows i m count numb
 abbrev μ-loop : tie.MeasureT-loop
 μ-loop s i m count rows numbers₀ j₀ numbers j = count - j
 
--- src/survey.rt:156:5
 loop-holds : tie.Need-loop-holds Inv-loop μ-loop
 loop-holds c = turn-first _ _ _ _ _ _ refl (c .before .pre)
 
--- src/survey.rt:157:41
 add-place-of : tie.Need-add-place-of Inv-loop μ-loop
 add-place-of c = omega (arith, c .before .loop .inv .due .storeys, c .before .loop .inv .due .most, c .before .loop .inv .due .count-most, c .before .loop .inv .turn)
 
--- src/survey.rt:157:48
 add-place-of-2 : tie.Need-add-place-of-2 Inv-loop μ-loop
 add-place-of-2 c = omega (arith, c .before .loop .inv .due .storeys, c .before .loop .inv .due .most, c .before .loop .inv .due .count-most, c .before .loop .inv .turn)
 
--- src/survey.rt:157:32
 place-of-requires : tie.Need-place-of-requires Inv-loop μ-loop
 place-of-requires c κs = (omega (arith, c .before .loop .inv .due .storeys, c .before .loop .inv .due .most, c .before .loop .inv .due .count-most, c .before .loop .inv .turn), omega (arith, c .before .loop .inv .due .storeys, c .before .loop .inv .due .most, c .before .loop .inv .due .count-most, c .before .loop .inv .turn))
 
--- src/survey.rt:157:56
 add-member-line : tie.Need-add-member-line Inv-loop μ-loop
 add-member-line c = omega (arith, c .before .before .loop .inv .due .storeys, c .before .before .loop .inv .due .most, c .before .before .loop .inv .due .count-most, c .before .before .loop .inv .turn)
 
--- src/survey.rt:157:13
 member-line-requires : tie.Need-member-line-requires Inv-loop μ-loop
 member-line-requires c κs = search needs
 
--- src/survey.rt:158:34
 repeat-fault-requires : tie.Need-repeat-fault-requires Inv-loop μ-loop
 repeat-fault-requires c κs = omega (arith, c .before .before .before .before .loop .inv .due .storeys, c .before .before .before .before .loop .inv .due .most, c .before .before .before .before .loop .inv .due .count-most, c .before .before .before .before .loop .inv .turn)
 
--- src/survey.rt:158:13
 earlier-requires : tie.Need-earlier-requires Inv-loop μ-loop
 earlier-requires c κs = search needs
 
--- src/survey.rt:162:24
 add-t17 : tie.Need-add-t17 Inv-loop μ-loop
 add-t17 c = omega (arith, c .before .before .before .before .before .before .before .loop .inv .due .storeys, c .before .before .before .before .before .before .before .loop .inv .due .most, c .before .before .before .before .before .before .before .loop .inv .due .count-most, c .before .before .before .before .before .before .before .loop .inv .turn)
 
--- src/survey.rt:162:24
 add-t18 : tie.Need-add-t18 Inv-loop μ-loop
 add-t18 c = omega (arith, c .before .before .before .before .before .before .before .loop .inv .due .storeys, c .before .before .before .before .before .before .before .loop .inv .due .most, c .before .before .before .before .before .before .before .loop .inv .due .count-most, c .before .before .before .before .before .before .before .loop .inv .turn)
 
--- src/survey.rt:162:24
 add-t19 : tie.Need-add-t19 Inv-loop μ-loop
 add-t19 c = omega (arith, c .before .before .before .before .before .before .before .loop .inv .due .storeys, c .before .before .before .before .before .before .before .loop .inv .due .most, c .before .before .before .before .before .before .before .loop .inv .due .count-most, c .before .before .before .before .before .before .before .loop .inv .turn)
 
--- src/survey.rt:160:13
 returns : tie.Need-returns Inv-loop μ-loop
 returns c = turn-stops (c .before .before .before .before .before .before .before .before .before .args .s .now) (c .before .before .before .before .before .before .before .before .before .args .rows) (c .before .before .before .before .before .before .before .before .before .args .i) (c .before .before .before .before .before .before .before .before .before .args .m) (c .before .before .before .before .before .before .before .before .before .args .count) (c .before .before .before .before .before .before .before .loop .numbers) (c .before .before .before .before .before .before .before .loop .j) (c .before .before .before .before .before .before .before .loop .inv) (c .before .before .before .before .before .before .loop-test .taken) _ (c .before .before .before .before .member-line .result) (c .before .before .before .before .before .place-of .ensures) (c .before .before .before .before .member-line .ensures) _ _ (c .before .before .repeat-fault .ensures) (c .before .earlier .ensures) _ (c .if1 .taken) refl
 
--- src/survey.rt:165:9
 mul-numbers : tie.Need-mul-numbers Inv-loop μ-loop
 mul-numbers c = omega (arith, c .before .before .before .before .before .before .before .loop .inv .due .storeys, c .before .before .before .before .before .before .before .loop .inv .due .most, c .before .before .before .before .before .before .before .loop .inv .due .count-most, c .before .before .before .before .before .before .before .loop .inv .turn)
 
--- src/survey.rt:165:9
 array-write-numbers : tie.Need-array-write-numbers Inv-loop μ-loop
 array-write-numbers c = omega (arith, c .before .before .before .before .before .before .before .loop .inv .due .storeys, c .before .before .before .before .before .before .before .loop .inv .due .most, c .before .before .before .before .before .before .before .loop .inv .due .count-most, c .before .before .before .before .before .before .before .loop .inv .turn)
 
--- src/survey.rt:166:9
 add-j : tie.Need-add-j Inv-loop μ-loop
 add-j c = omega (arith, c .before .before .before .before .before .before .before .loop .inv .due .storeys, c .before .before .before .before .before .before .before .loop .inv .due .most, c .before .before .before .before .before .before .before .loop .inv .due .count-most, c .before .before .before .before .before .before .before .loop .inv .turn)
 
--- src/survey.rt:156:5
 loop-less : tie.Need-loop-less Inv-loop μ-loop
 loop-less c = search needs
 
--- src/survey.rt:156:5
 loop-again : tie.Need-loop-again Inv-loop μ-loop
 loop-again c = turn-next (c .before .before .before .before .before .before .before .before .before .args .s .now) (c .before .before .before .before .before .before .before .before .before .args .rows) (c .before .before .before .before .before .before .before .before .before .args .i) (c .before .before .before .before .before .before .before .before .before .args .m) (c .before .before .before .before .before .before .before .before .before .args .count) (c .before .before .before .before .before .before .before .loop .numbers) (c .before .before .before .before .before .before .before .loop .j) (c .before .before .before .before .before .before .before .loop .inv) (c .before .before .before .before .before .before .loop-test .taken) _ (c .before .before .before .before .member-line .result) (c .before .before .before .before .before .place-of .ensures) (c .before .before .before .before .member-line .ensures) _ _ (c .before .before .repeat-fault .ensures) (c .before .earlier .ensures) (c .if1 .left)
 
--- src/survey.rt:150:1
 returns-2 : tie.Need-returns-2 Inv-loop μ-loop
 returns-2 c = turn-last _ _ _ _ _ _ _ (c .before .loop .inv) (c .loop-test .left)
 

@@ -1,17 +1,15 @@
 use mathlib.Core.Bool.{Bool, false}
-use Prim.Native.Nat.{ℕ, _+_, _-_, _*_, _≤_, _<_}
-use mathlib.Core.Path.{_≡_, refl, sym, _∙_}
+use Prim.Native.Nat.{ℕ, _-_, _≤_}
+use mathlib.Core.Path.{_≡_}
 use native.Mathlib.Omega.{arith}
 use borrow.Author.Needs.{needs}
-use lib.ListN.{length, take, drop, getD}
+use lib.ListN.{getD}
 use lib.Dec.{eqb}
 use borrow.Author.Tests.{eq-eqb, ne-eqb}
 use Rattle.reading.specs.First.{any}
 use Rattle.reading.proofs.Below.{any-none, any-more, any-holds}
 use Rattle.reading.proofs.survey.repeat_fault.Statement.{statement}
 use Rattle.reading.proofs.survey.repeat_fault.Tie as tie
-use Rattle.reading.proofs.survey.repeat_fault.Reads as reads
-use Rattle.reading.proofs.survey.repeat_fault.Lts as lts
 
 abbrev Inv-loop : tie.InvT-loop
 Inv-loop numbers n v e₀ e = (e ≤ n) × (any (λ (k : ℕ). eqb (getD numbers k 0) v) e ≡ false)
@@ -19,35 +17,27 @@ Inv-loop numbers n v e₀ e = (e ≤ n) × (any (λ (k : ℕ). eqb (getD numbers
 abbrev μ-loop : tie.MeasureT-loop
 μ-loop numbers n v e₀ e = n - e
 
--- src/survey.rt:132:5
 loop-holds : tie.Need-loop-holds Inv-loop μ-loop
 loop-holds c = (omega arith, any-none _)
 
--- src/survey.rt:133:12
 mul-if1 : tie.Need-mul-if1 Inv-loop μ-loop
 mul-if1 c = search needs
 
--- src/survey.rt:133:12
 element-copy-out-if1 : tie.Need-element-copy-out-if1 Inv-loop μ-loop
 element-copy-out-if1 c = search needs
 
--- src/survey.rt:134:13
 returns : tie.Need-returns Inv-loop μ-loop
 returns c = let p : ℕ → Bool = λ (k : ℕ). eqb (getD (c .before .before .before .before .args .numbers .now) k 0) (c .before .before .before .before .args .v) in rw (any-holds p (c .before .before .before .before .args .n) (c .before .before .before .loop .e) (c .before .before .loop-test .taken) (eq-eqb _ _ (c .if1 .taken)))
 
--- src/survey.rt:136:9
 add-e : tie.Need-add-e Inv-loop μ-loop
 add-e c = search needs
 
--- src/survey.rt:132:5
 loop-less : tie.Need-loop-less Inv-loop μ-loop
 loop-less c = search needs
 
--- src/survey.rt:132:5
 loop-again : tie.Need-loop-again Inv-loop μ-loop
 loop-again c = let p : ℕ → Bool = λ (k : ℕ). eqb (getD (c .before .before .before .before .args .numbers .now) k 0) (c .before .before .before .before .args .v) in (omega arith, any-more p (c .before .before .before .loop .e) (c .before .before .before .loop .inv .1) (ne-eqb _ _ (c .if1 .left)))
 
--- src/survey.rt:127:1
 returns-2 : tie.Need-returns-2 Inv-loop μ-loop
 returns-2 c = let p : ℕ → Bool = λ (k : ℕ). eqb (getD (c .before .before .args .numbers .now) k 0) (c .before .before .args .v) in let q : c .before .loop .e ≡ c .before .before .args .n = omega arith in let z : any p (c .before .before .args .n) ≡ false = rw q at (c .before .loop .inv .1) in rw z
 

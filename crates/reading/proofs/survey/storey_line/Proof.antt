@@ -6,43 +6,28 @@ use Rattle.reading.specs.declared.records.Tag.the-variants.{S}
 use borrow.Author.Needs.{needs}
 use Rattle.reading.proofs.survey.storey_line.Statement.{statement}
 use Rattle.reading.proofs.survey.storey_line.Tie as tie
-use Rattle.reading.proofs.survey.storey_line.Reads as reads
-use Rattle.reading.proofs.survey.storey_line.Lts as lts
-use Rattle.reading.proofs.lines.earlier.Reads as earlier-reads
-use Rattle.reading.proofs.lines.is_shaped.Reads as is-shaped-reads
-use Rattle.reading.proofs.lines.read_fields.Reads as read-fields-reads
-use Rattle.reading.proofs.lines.storey_of.Reads as storey-of-reads
-use Rattle.reading.proofs.ranges.storey_fault.Reads as storey-fault-reads
 
--- src/survey.rt:80:9
 is-shaped-requires : tie.Need-is-shaped-requires
 is-shaped-requires c κs = search needs
 
--- src/survey.rt:81:9
 returns : tie.Need-returns
 returns c = storey-unshaped _ _ _ _ (sym (c .before .is-shaped .ensures) ∙ not-true _ (c .if1 .taken))
 
--- src/survey.rt:87:9
 returns-2 : tie.Need-returns-2
 returns-2 c = storey-unheld _ _ _ _ (sym (c .before .before .is-shaped .ensures) ∙ not-false _ (c .before .if1 .left)) (not-true _ (c .if2 .taken))
 
--- src/survey.rt:92:9
 read-fields-requires : tie.Need-read-fields-requires
 read-fields-requires c κs = omega (arith, shaped-fits S (c .before .before .before .before .args .s .now) (c .before .before .before .before .args .at) (sym (c .before .before .is-shaped .ensures) ∙ not-false _ (c .before .if1 .left)))
 
--- src/survey.rt:94:9
 storey-of-requires : tie.Need-storey-of-requires
 storey-of-requires c κs = search needs
 
--- src/survey.rt:96:33
 storey-fault-requires : tie.Need-storey-fault-requires
 storey-fault-requires c κs = search needs
 
--- src/survey.rt:96:16
 earlier-requires : tie.Need-earlier-requires
 earlier-requires c κs = search needs
 
--- src/survey.rt:72:1
 returns-3 : tie.Need-returns-3
 returns-3 c = storey-shaped _ _ _ (c .before .before .before .before .read-fields .result) (c .before .before .storey-of .result) _ _ (sym (c .before .before .before .before .before .before .before .is-shaped .ensures) ∙ not-false _ (c .before .before .before .before .before .before .if1 .left)) (not-false _ (c .before .before .before .before .before .if2 .left)) (c .before .before .before .before .read-fields .ensures) (c .before .before .storey-of .ensures) (c .before .storey-fault .ensures) (c .earlier .ensures)
 

@@ -1,18 +1,10 @@
-use Prim.Native.Nat.{ℕ, _+_, _-_, _*_, _≤_, _<_}
-use mathlib.Core.Path.{_≡_, refl, sym, _∙_}
+use Prim.Native.Nat.{_-_}
+use mathlib.Core.Path.{refl}
 use native.Mathlib.Omega.{arith}
 use borrow.Author.Needs.{needs}
-use lib.ListN.{length, take, drop, getD}
 use Rattle.reading.proofs.Files.{Begun, begun-first, storey-stops, is-due, members-stop, begun-next, more-bytes, no-more}
 use Rattle.reading.proofs.survey.storeys_fault.Statement.{statement}
 use Rattle.reading.proofs.survey.storeys_fault.Tie as tie
-use Rattle.reading.proofs.survey.storeys_fault.Reads as reads
-use Rattle.reading.proofs.survey.storeys_fault.Lts as lts
-use Rattle.reading.proofs.lines.earlier.Reads as earlier-reads
-use Rattle.reading.proofs.survey.members_fault.Reads as members-fault-reads
-use Rattle.reading.proofs.survey.place_of.Reads as place-of-reads
-use Rattle.reading.proofs.survey.repeat_fault.Reads as repeat-fault-reads
-use Rattle.reading.proofs.survey.storey_line.Reads as storey-line-reads
 
 abbrev Inv-loop : tie.InvT-loop
 Inv-loop s n srows mrows numbers₀ i₀ m₀ numbers i m = Begun s n srows mrows numbers i m
@@ -20,87 +12,66 @@ Inv-loop s n srows mrows numbers₀ i₀ m₀ numbers i m = Begun s n srows mrow
 abbrev μ-loop : tie.MeasureT-loop
 μ-loop s n srows mrows numbers₀ i₀ m₀ numbers i m = n - i
 
--- src/survey.rt:186:5
 loop-holds : tie.Need-loop-holds Inv-loop μ-loop
 loop-holds c = begun-first _ _ _ _ _ (c .before .pre) refl
 
--- src/survey.rt:187:32
 place-of-requires : tie.Need-place-of-requires Inv-loop μ-loop
 place-of-requires c κs = (omega (arith, c .before .loop .inv .storeys, c .before .loop .inv .turn, c .before .loop .inv .most), omega (arith, c .before .loop .inv .storeys, c .before .loop .inv .turn, c .before .loop .inv .most))
 
--- src/survey.rt:187:13
 storey-line-requires : tie.Need-storey-line-requires Inv-loop μ-loop
 storey-line-requires c κs = search needs
 
--- src/survey.rt:189:34
 repeat-fault-requires : tie.Need-repeat-fault-requires Inv-loop μ-loop
 repeat-fault-requires c κs = omega (arith, c .before .before .before .before .before .loop .inv .storeys, c .before .before .before .before .before .loop .inv .turn, c .before .before .before .before .before .loop .inv .most)
 
--- src/survey.rt:189:13
 earlier-requires : tie.Need-earlier-requires Inv-loop μ-loop
 earlier-requires c κs = search needs
 
--- src/survey.rt:193:24
 add-t17 : tie.Need-add-t17 Inv-loop μ-loop
 add-t17 c = omega (arith, c .before .before .before .before .before .before .before .before .loop .inv .storeys, c .before .before .before .before .before .before .before .before .loop .inv .turn, c .before .before .before .before .before .before .before .before .loop .inv .most)
 
--- src/survey.rt:193:24
 add-t18 : tie.Need-add-t18 Inv-loop μ-loop
 add-t18 c = omega (arith, c .before .before .before .before .before .before .before .before .loop .inv .storeys, c .before .before .before .before .before .before .before .before .loop .inv .turn, c .before .before .before .before .before .before .before .before .loop .inv .most)
 
--- src/survey.rt:191:13
 returns : tie.Need-returns Inv-loop μ-loop
 returns c = storey-stops (c .before .before .before .before .before .before .before .before .before .before .args .s .now) (c .before .before .before .before .before .before .before .before .before .before .args .n) (c .before .before .before .before .before .before .before .before .before .before .args .srows) (c .before .before .before .before .before .before .before .before .before .before .args .mrows) (c .before .before .before .before .before .before .before .before .loop .numbers) (c .before .before .before .before .before .before .before .before .loop .i) (c .before .before .before .before .before .before .before .before .loop .m) (c .before .before .before .before .before .before .before .before .loop .inv) (c .before .before .before .before .before .before .before .loop-test .taken) _ (c .before .before .before .before .before .storey-line .result) (c .before .before .before .before .before .before .place-of .ensures) (c .before .before .before .before .before .storey-line .ensures) _ _ (c .before .before .repeat-fault .ensures) (c .before .earlier .ensures) _ (c .if1 .taken) refl
 
--- src/survey.rt:198:13
 members-fault-requires : tie.Need-members-fault-requires Inv-loop μ-loop
 members-fault-requires c κs = is-due (c .before .before .before .before .before .before .before .before .before .before .args .s .now) (c .before .before .before .before .before .before .before .before .before .before .args .n) (c .before .before .before .before .before .before .before .before .before .before .args .srows) (c .before .before .before .before .before .before .before .before .before .before .args .mrows) (c .before .before .before .before .before .before .before .before .loop .numbers) (c .before .before .before .before .before .before .before .before .loop .i) (c .before .before .before .before .before .before .before .before .loop .m) (c .before .before .before .before .before .before .before .before .loop .inv) (c .before .before .before .before .before .before .before .loop-test .taken) _ (c .before .before .before .before .before .storey-line .result) (c .before .before .before .before .before .before .place-of .ensures) (c .before .before .before .before .before .storey-line .ensures) _ _ (c .before .before .repeat-fault .ensures) (c .before .earlier .ensures) (c .if1 .left) _ refl
 
--- src/survey.rt:200:13
 returns-2 : tie.Need-returns-2 Inv-loop μ-loop
 returns-2 c = members-stop (c .before .before .before .before .before .before .before .before .before .before .before .before .before .args .s .now) (c .before .before .before .before .before .before .before .before .before .before .before .before .before .args .n) (c .before .before .before .before .before .before .before .before .before .before .before .before .before .args .srows) (c .before .before .before .before .before .before .before .before .before .before .before .before .before .args .mrows) (c .before .before .before .before .before .before .before .before .before .before .before .loop .numbers) (c .before .before .before .before .before .before .before .before .before .before .before .loop .i) (c .before .before .before .before .before .before .before .before .before .before .before .loop .m) (c .before .before .before .before .before .before .before .before .before .before .before .loop .inv) (c .before .before .before .before .before .before .before .before .before .before .loop-test .taken) _ (c .before .before .before .before .before .before .before .before .storey-line .result) (c .before .before .before .before .before .before .before .before .before .place-of .ensures) (c .before .before .before .before .before .before .before .before .storey-line .ensures) _ _ (c .before .before .before .before .before .repeat-fault .ensures) (c .before .before .before .before .earlier .ensures) (c .before .before .before .if1 .left) _ (c .before .before .members-fault .ensures) (c .if2 .taken)
 
--- src/survey.rt:206:9
 mul-numbers : tie.Need-mul-numbers Inv-loop μ-loop
 mul-numbers c = omega (arith, c .before .before .before .before .before .before .before .before .before .before .before .loop .inv .storeys, c .before .before .before .before .before .before .before .before .before .before .before .loop .inv .turn, c .before .before .before .before .before .before .before .before .before .before .before .loop .inv .most)
 
--- src/survey.rt:206:9
 array-write-numbers : tie.Need-array-write-numbers Inv-loop μ-loop
 array-write-numbers c = omega (arith, c .before .before .before .before .before .before .before .before .before .before .before .loop .inv .storeys, c .before .before .before .before .before .before .before .before .before .before .before .loop .inv .turn, c .before .before .before .before .before .before .before .before .before .before .before .loop .inv .most)
 
--- src/survey.rt:207:9
 add-m : tie.Need-add-m Inv-loop μ-loop
 add-m c = omega (arith, c .before .before .before .before .before .before .before .before .before .before .before .loop .inv .storeys, c .before .before .before .before .before .before .before .before .before .before .before .loop .inv .turn, c .before .before .before .before .before .before .before .before .before .before .before .loop .inv .most, is-due (c .before .before .before .before .before .before .before .before .before .before .before .before .before .args .s .now) (c .before .before .before .before .before .before .before .before .before .before .before .before .before .args .n) (c .before .before .before .before .before .before .before .before .before .before .before .before .before .args .srows) (c .before .before .before .before .before .before .before .before .before .before .before .before .before .args .mrows) (c .before .before .before .before .before .before .before .before .before .before .before .loop .numbers) (c .before .before .before .before .before .before .before .before .before .before .before .loop .i) (c .before .before .before .before .before .before .before .before .before .before .before .loop .m) (c .before .before .before .before .before .before .before .before .before .before .before .loop .inv) (c .before .before .before .before .before .before .before .before .before .before .loop-test .taken) _ (c .before .before .before .before .before .before .before .before .storey-line .result) (c .before .before .before .before .before .before .before .before .before .place-of .ensures) (c .before .before .before .before .before .before .before .before .storey-line .ensures) _ _ (c .before .before .before .before .before .repeat-fault .ensures) (c .before .before .before .before .earlier .ensures) (c .before .before .before .if1 .left) _ refl .count-most)
 
--- src/survey.rt:208:9
 add-i : tie.Need-add-i Inv-loop μ-loop
 add-i c = omega (arith, c .before .before .before .before .before .before .before .before .before .before .before .loop .inv .storeys, c .before .before .before .before .before .before .before .before .before .before .before .loop .inv .turn, c .before .before .before .before .before .before .before .before .before .before .before .loop .inv .most)
 
--- src/survey.rt:186:5
 loop-less : tie.Need-loop-less Inv-loop μ-loop
 loop-less c = search needs
 
--- src/survey.rt:186:5
 loop-again : tie.Need-loop-again Inv-loop μ-loop
 loop-again c = begun-next (c .before .before .before .before .before .before .before .before .before .before .before .before .before .args .s .now) (c .before .before .before .before .before .before .before .before .before .before .before .before .before .args .n) (c .before .before .before .before .before .before .before .before .before .before .before .before .before .args .srows) (c .before .before .before .before .before .before .before .before .before .before .before .before .before .args .mrows) (c .before .before .before .before .before .before .before .before .before .before .before .loop .numbers) (c .before .before .before .before .before .before .before .before .before .before .before .loop .i) (c .before .before .before .before .before .before .before .before .before .before .before .loop .m) (c .before .before .before .before .before .before .before .before .before .before .before .loop .inv) (c .before .before .before .before .before .before .before .before .before .before .loop-test .taken) _ (c .before .before .before .before .before .before .before .before .storey-line .result) (c .before .before .before .before .before .before .before .before .before .place-of .ensures) (c .before .before .before .before .before .before .before .before .storey-line .ensures) _ _ (c .before .before .before .before .before .repeat-fault .ensures) (c .before .before .before .before .earlier .ensures) (c .before .before .before .if1 .left) _ _ (c .before .before .members-fault .ensures) (c .if2 .left) refl
 
--- src/survey.rt:210:8
 place-of-requires-2 : tie.Need-place-of-requires-2 Inv-loop μ-loop
 place-of-requires-2 c κs = (omega (arith, c .before .loop .inv .storeys, c .before .loop .inv .turn, c .before .loop .inv .most), omega (arith, c .before .loop .inv .storeys, c .before .loop .inv .turn, c .before .loop .inv .most))
 
--- src/survey.rt:213:20
 add-t25 : tie.Need-add-t25 Inv-loop μ-loop
 add-t25 c = omega (arith, c .before .before .before .loop .inv .storeys, c .before .before .before .loop .inv .turn, c .before .before .before .loop .inv .most)
 
--- src/survey.rt:213:20
 add-t26 : tie.Need-add-t26 Inv-loop μ-loop
 add-t26 c = omega (arith, c .before .before .before .loop .inv .storeys, c .before .before .before .loop .inv .turn, c .before .before .before .loop .inv .most)
 
--- src/survey.rt:211:9
 returns-3 : tie.Need-returns-3 Inv-loop μ-loop
 returns-3 c = more-bytes _ _ _ _ _ _ _ (c .before .before .before .loop .inv) (c .before .before .loop-test .left) _ (c .before .place-of2 .ensures) _ (c .if3 .taken) refl
 
--- src/survey.rt:179:1
 returns-4 : tie.Need-returns-4 Inv-loop μ-loop
 returns-4 c = no-more _ _ _ _ _ _ _ (c .before .before .before .loop .inv) (c .before .before .loop-test .left) _ (c .before .place-of2 .ensures) (c .if3 .left)
 

@@ -1,22 +1,16 @@
 use borrow.Author.Needs.{needs}
 use Rattle.reading.proofs.survey.storeys_read.Statement.{statement}
 use Rattle.reading.proofs.survey.storeys_read.Tie as tie
-use Rattle.reading.proofs.survey.storeys_read.Reads as reads
-use Rattle.reading.proofs.survey.storeys_read.Lts as lts
 
--- src/survey.rt:315:13
 enum-known-a : tie.Need-enum-known-a
 enum-known-a c = search needs
 
--- src/survey.rt:321:14
 enum-told : tie.Need-enum-told
 enum-told c = search needs
 
--- src/survey.rt:308:1
 returns : tie.Need-returns
 returns c = simp (c .before .a .given .1)
 
--- src/survey.rt:308:1
 returns-2 : tie.Need-returns-2
 returns-2 c = search needs
 

@@ -2,24 +2,16 @@ use mathlib.Core.Path.{_∙_}
 use borrow.Author.Needs.{needs}
 use Rattle.reading.proofs.cursor.Cursor.field.Statement.{statement}
 use Rattle.reading.proofs.cursor.Cursor.field.Tie as tie
-use Rattle.reading.proofs.cursor.Cursor.field.Reads as reads
-use Rattle.reading.proofs.cursor.Cursor.field.Lts as lts
-use Rattle.reading.proofs.cursor.force_at.Reads as force-at-reads
-use Rattle.reading.proofs.cursor.plain_at.Reads as plain-at-reads
 
--- src/cursor.rt:70:13
 force-at-requires : tie.Need-force-at-requires
 force-at-requires c κs = search needs
 
--- src/cursor.rt:70:13
 returns : tie.Need-returns
 returns c = c .force-at .ensures ∙ simp (c .before .if1 .taken)
 
--- src/cursor.rt:72:9
 plain-at-requires : tie.Need-plain-at-requires
 plain-at-requires c κs = search needs
 
--- src/cursor.rt:64:5
 returns-2 : tie.Need-returns-2
 returns-2 c = c .plain-at .ensures ∙ simp (c .before .if1 .left)
 

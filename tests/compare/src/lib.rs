@@ -1,0 +1,104 @@
+//! The proved library called from Rust, and its answers as the independent program's types.
+use independent::{Header, Member, Refusal, Storey, Survey};
+
+/// A storey as the proved library lays it out.
+#[repr(C)]
+#[derive(Clone, Copy, Debug, PartialEq, Eq)]
+pub struct StoreyRow(pub [u64; 3]);
+
+/// A member as the proved library lays it out: fields 1 to 26, N_D and N_K counted from -1,000,000.
+#[repr(C)]
+#[derive(Clone, Copy, Debug, PartialEq, Eq)]
+pub struct MemberRow(pub [u64; 26]);
+
+extern "C" {
+    fn llunareth_read(
+        s: *const u8,
+        s_len: usize,
+        storeys: *mut StoreyRow,
+        storeys_len: usize,
+        members: *mut MemberRow,
+        members_len: usize,
+        out: *mut u64,
+        out_len: usize,
+    );
+    fn llunareth_header_fault(values: *const u64, len: usize) -> u64;
+    fn llunareth_storey_fault(values: *const u64, len: usize) -> u64;
+    fn llunareth_member_fault(values: *const u64, len: usize) -> u64;
+}
+
+const ZERO_FORCE: i128 = 1_000_000;
+
+/// The stored numbers of a member; `None` where a force has none (below -1,000,000 or above what 64 bits hold).
+pub fn member_numbers(m: &Member) -> Option<[u64; 26]> {
+    let fields = m.fields();
+    let mut numbers = [0; 26];
+    for (j, &field) in fields.iter().enumerate() {
+        let shift = if j == 17 || j == 18 { ZERO_FORCE } else { 0 };
+        numbers[j] = u64::try_from(field + shift).ok()?;
+    }
+    Some(numbers)
+}
+
+/// The member of stored numbers.
+pub fn member_of(numbers: &[u64; 26]) -> Member {
+    let mut fields = [0; 26];
+    for (j, &number) in numbers.iter().enumerate() {
+        let shift = if j == 17 || j == 18 { ZERO_FORCE } else { 0 };
+        fields[j] = i128::from(number) - shift;
+    }
+    Member::from_fields(&fields)
+}
+
+/// The proved reading call: the rows are filled in place, and `out` gets its ten numbers if they fit.
+pub fn read_into(bytes: &[u8], storeys: &mut [StoreyRow], members: &mut [MemberRow], out: &mut [u64]) {
+    unsafe {
+        llunareth_read(
+            bytes.as_ptr(),
+            bytes.len(),
+            storeys.as_mut_ptr(),
+            storeys.len(),
+            members.as_mut_ptr(),
+            members.len(),
+            out.as_mut_ptr(),
+            out.len(),
+        );
+    }
+}
+
+/// What the proved reading call answers for a file and so many rows. Panics where a row changed that it must leave alone.
+pub fn read(bytes: &[u8], storey_rows: usize, member_rows: usize) -> Result<Survey, Refusal> {
+    let storey_mark: Vec<StoreyRow> = (0..storey_rows).map(|i| StoreyRow([7 + i as u64; 3])).collect();
+    let member_mark: Vec<MemberRow> = (0..member_rows).map(|i| MemberRow([9 + i as u64; 26])).collect();
+    let (mut storeys, mut members) = (storey_mark.clone(), member_mark.clone());
+    let mut out = [u64::MAX; 10];
+    read_into(bytes, &mut storeys, &mut members, &mut out);
+    let (s, m) = (out[8] as usize, out[9] as usize);
+    if out[0] != 0 {
+        assert_eq!(&out[2..], &[0; 8], "a refusal tells nothing else");
+    }
+    assert_eq!(storeys[s..], storey_mark[s..], "storey rows after those filled");
+    assert_eq!(members[m..], member_mark[m..], "member rows after those filled");
+    if out[0] != 0 {
+        return Err(Refusal::at(out[0] as u8, out[1]));
+    }
+    assert_eq!(out[1], 0, "an accepted file has no line");
+    let header: [i128; 6] = std::array::from_fn(|j| i128::from(out[2 + j]));
+    Ok(Survey {
+        header: Header::from_fields(&header),
+        storeys: storeys[..s].iter().map(|r| Storey::from_fields(&r.0.map(i128::from))).collect(),
+        members: members[..m].iter().map(|r| member_of(&r.0)).collect(),
+    })
+}
+
+pub fn header_fault(values: &[u64]) -> u64 {
+    unsafe { llunareth_header_fault(values.as_ptr(), values.len()) }
+}
+
+pub fn storey_fault(values: &[u64]) -> u64 {
+    unsafe { llunareth_storey_fault(values.as_ptr(), values.len()) }
+}
+
+pub fn member_fault(values: &[u64]) -> u64 {
+    unsafe { llunareth_member_fault(values.as_ptr(), values.len()) }
+}
