@@ -1,0 +1,10 @@
+pub mod Answers
+pub mod Arithmetic
+pub mod Assembly
+pub mod Falling
+pub mod Fractions
+pub mod Interpolation
+pub mod Means
+pub mod Order
+pub mod Rounding
+pub mod Worse

@@ -1,0 +1,55 @@
+use Rattle.members.proofs.Assembly.{assembled}
+use borrow.Author.Needs.{needs}
+use Rattle.members.proofs.finding.judge.Statement.{statement}
+use Rattle.members.proofs.finding.judge.Tie as tie
+
+class-of-requires : tie.Need-class-of-requires
+class-of-requires c κs = search needs
+
+ratios-requires : tie.Need-ratios-requires
+ratios-requires c κs = search needs
+
+moment-ratio-requires : tie.Need-moment-ratio-requires
+moment-ratio-requires c κs = search needs
+
+m-limit-requires : tie.Need-m-limit-requires
+m-limit-requires c κs = search needs
+
+rotation-limit-requires : tie.Need-rotation-limit-requires
+rotation-limit-requires c κs = search needs
+
+m-dropped-requires : tie.Need-m-dropped-requires
+m-dropped-requires c κs = search needs
+
+exceeds-requires : tie.Need-exceeds-requires
+exceeds-requires c κs = search needs
+
+axial-requires : tie.Need-axial-requires
+axial-requires c κs = search needs
+
+returns : tie.Need-returns
+returns c =
+    let a = c .before .before .before .before .before .before .before .before .before .args in
+    assembled (a .s) (a .k) (a .met) (a .m)
+    (c .before .before .before .before .before .before .before .class-of .ensures)
+    (c .before .before .before .before .before .before .ratios .ensures)
+    (c .before .before .before .before .before .moment-ratio .ensures)
+    (c .before .before .before .before .m-limit .ensures)
+    (c .before .before .before .rotation-limit .ensures)
+    (c .before .before .m-dropped .ensures)
+    (c .before .exceeds .ensures)
+    (c .axial .ensures)
+
+pub judge-spec : {M : Type 1} → statement M
+judge-spec =
+    tie.close
+    (tie.spec
+    class-of-requires
+    ratios-requires
+    moment-ratio-requires
+    m-limit-requires
+    rotation-limit-requires
+    m-dropped-requires
+    exceeds-requires
+    axial-requires
+    returns)

@@ -1,0 +1,63 @@
+use mathlib.Core.Path.{_≡_, _∙_, sym, ap}
+use Rattle.members.specs.declared.class.Class.{Class}
+use Rattle.members.specs.Limits.{quarters}
+use borrow.Author.Needs.{needs}
+use Rattle.members.proofs.limits.quarters.Statement.{statement}
+use Rattle.members.proofs.limits.quarters.Tie as tie
+
+-- the quarters of a class that is known
+at : (c : tie.Start) {k : Class} → c .args .class ≡ k → quarters (c .args .class) (c .args .strengthened) ≡ quarters k (c .args .strengthened)
+at c e = ap (λ (k : Class). quarters k (c .args .strengthened)) e
+
+enum-told : tie.Need-enum-told
+enum-told c = search needs
+
+three-if-requires : tie.Need-three-if-requires
+three-if-requires c κs = search needs
+
+enum-told-2 : tie.Need-enum-told-2
+enum-told-2 c = search needs
+
+three-if-requires-2 : tie.Need-three-if-requires-2
+three-if-requires-2 c κs = search needs
+
+enum-told-3 : tie.Need-enum-told-3
+enum-told-3 c = search needs
+
+enum-told-4 : tie.Need-enum-told-4
+enum-told-4 c = search needs
+
+enum-told-5 : tie.Need-enum-told-5
+enum-told-5 c = search needs
+
+returns : tie.Need-returns
+returns c = c .three-if .ensures ∙ sym (at (c .before .before .before) (c .before .enum-told .given .1))
+
+returns-2 : tie.Need-returns-2
+returns-2 c = c .three-if2 .ensures ∙ sym (at (c .before .before .before) (c .before .enum-told2 .given .1))
+
+returns-3 : tie.Need-returns-3
+returns-3 c = search needs
+
+returns-4 : tie.Need-returns-4
+returns-4 c = search needs
+
+returns-5 : tie.Need-returns-5
+returns-5 c = search needs
+
+pub quarters-spec : {M : Type 1} → statement M
+quarters-spec =
+    tie.close
+    (tie.spec
+    enum-told
+    three-if-requires
+    enum-told-2
+    three-if-requires-2
+    enum-told-3
+    enum-told-4
+    enum-told-5
+    returns
+    returns-2
+    returns-3
+    returns-4
+    returns-5)

@@ -1,0 +1,148 @@
+-- What a member is found to be (document 01, "Member", "Refusals as returned").
+use Prim.Native.Nat.{ℕ, _-_, _*_}
+use mathlib.Core.Bool.{Bool, true, false, _&&_, _||_, not}
+use mathlib.Core.List.{List, [], _∷_}
+use lib.Dec.{ltb, eqb}
+use Rattle.reading.specs.First.{pick}
+use Rattle.reading.specs.Records.{zeroForce, memberFault}
+use Rattle.reading.specs.declared.records.Member.{Member}
+use Rattle.members.specs.declared.finding.Finding.{Finding}
+use Rattle.members.specs.declared.finding.MemberAnswer.{MemberAnswer}
+use Rattle.members.specs.declared.finding.MemberAnswer.the-variants.{Judged, Refused}
+use Rattle.members.specs.declared.limits.Ratios.{Ratios}
+use Rattle.members.specs.declared.tables.LimitSet.{LimitSet}
+use Rattle.members.specs.declared.units.Ratio.{Ratio}
+use Rattle.members.specs.declared.units.HoopRatio.{HoopRatio}
+use Rattle.members.specs.declared.units.Microradians.{Microradians}
+use Rattle.members.specs.Units.{ratioUp, hoopDown, microradians}
+use Rattle.members.specs.Class.{code, isWall, shearBelow, classOf}
+use Rattle.members.specs.Tables.{published}
+use Rattle.members.specs.Limits.{mLimitAt, rotationLimitAt}
+
+-- "0 where N_K ≤ 0": the compression of a force counted from zeroForce
+abbrev pub compression : ℕ → ℕ
+compression force = force - zeroForce
+
+-- "axial n = 10,000,000 × N_K / (f_cm × A_c), up": ten-thousandths of 1,000 × N_K / (f_cm × A_c)
+unfoldable pub axial : ℕ → ℕ → ℕ → Ratio
+axial force fcm area = ratioUp (compression force * 1_000) (fcm * area)
+
+-- "m = 1,000,000 × M_e / (k × M_p), up"
+unfoldable pub moment : ℕ → ℕ → ℕ → Ratio
+moment k me mp = ratioUp (me * 100) (k * mp)
+
+-- "wall stress v = 100,000,000 × V_e / (short side × d × f_ctm), up"
+unfoldable pub stress : ℕ → ℕ → ℕ → ℕ → Ratio
+stress ve short depth fctm = ratioUp (ve * 10_000) (short * depth * fctm)
+
+-- "hoop ratio ρ = 1,000,000 × A_sh / (s × b_k), down"
+unfoldable pub hoops : ℕ → ℕ → ℕ → HoopRatio
+hoops area spacing core = hoopDown area (spacing * core)
+
+-- n; n_D, "likewise from N_D"; m; v; ρ of a member
+abbrev pub axialRatio : Member → Ratio
+axialRatio m = axial (m .case .nk) (m .fcm) (m .area)
+
+abbrev pub axialRatioD : Member → Ratio
+axialRatioD m = axial (m .nd) (m .fcm) (m .area)
+
+abbrev pub momentRatio : ℕ → Member → Ratio
+momentRatio k m = moment k (m .case .me) (m .case .mp)
+
+abbrev pub wallStress : Member → Ratio
+wallStress m = stress (m .case .ve) (m .short) (m .depth) (m .fctm)
+
+abbrev pub hoopRatio : Member → HoopRatio
+hoopRatio m = hoops (m .hoops) (m .spacing) (m .core)
+
+unfoldable pub ratios : Member → Ratios
+ratios m = record { n = axialRatio m; v = wallStress m; rho = hoopRatio m }
+
+-- the limits of a member: those of its class at its ratios and marks
+unfoldable pub mLimit : LimitSet → ℕ → Member → Ratio
+mLimit s k m =
+    mLimitAt s (classOf k m) (m .zone) (m .strengthened) (axialRatio m .0) (wallStress m .0) (hoopRatio m .0)
+
+unfoldable pub rotationLimit : LimitSet → ℕ → Member → Microradians
+rotationLimit s k m =
+    rotationLimitAt s (classOf k m) (m .zone) (m .strengthened) (m .factor) (axialRatio m .0) (wallStress m .0) (hoopRatio m .0)
+
+-- "The m test is dropped for a wall with drift < 7,500 and 100 × V_e < k × V_r, in a storey whose walls' V total ≥ 0.40 × storey shear": met
+unfoldable pub mDropped : ℕ → Bool → Member → Bool
+mDropped k met m = met && (isWall m && (ltb (m .case .drift) 7_500 && shearBelow k (m .case .ve) (m .case .vr)))
+
+-- "A member is over when m or rotation exceeds its limit", m only where its test is not dropped
+abbrev pub exceeds : Bool → ℕ → ℕ → ℕ → ℕ → Bool
+exceeds dropped m limit rotation rotationLimit = (not dropped && ltb limit m) || ltb rotationLimit rotation
+
+unfoldable pub isOver : LimitSet → ℕ → Bool → Member → Bool
+isOver s k met m =
+    exceeds (mDropped k met m) (momentRatio k m .0) (mLimit s k m .0) (m .case .rotation) (rotationLimit s k m .0)
+
+unfoldable pub findingBy : LimitSet → ℕ → Bool → Member → Finding
+findingBy s k met m =
+    record {
+      class = classOf k m;
+      m = momentRatio k m;
+      «m_limit» = mLimit s k m;
+      rotation = microradians (m .case .rotation);
+      «rotation_limit» = rotationLimit s k m;
+      over = isOver s k met m;
+      nd = axialRatioD m;
+    }
+
+-- k is one of the two levels
+abbrev pub knowledge : ℕ → Bool
+knowledge k = eqb k 90 || eqb k 100
+
+-- the answer on one member: k's 3, then the record's 3 and 4, then the finding
+unfoldable pub answerBy : LimitSet → ℕ → Bool → Member → MemberAnswer
+answerBy s k met m =
+    pick (knowledge k)
+    (pick (eqb (memberFault m) 0) (Judged (findingBy s k met m)) (Refused (memberFault m)))
+    (Refused 3)
+
+-- by the published set
+abbrev pub finding : ℕ → Bool → Member → Finding
+finding = findingBy published
+
+abbrev pub memberAnswer : ℕ → Bool → Member → MemberAnswer
+memberAnswer = answerBy published
+
+-- what an answer is in the paper's words: the refusal's number, 0 where there is none; its line, 0 on records; and the values found
+pub record Returned : Type 0 where
+  pub refusal : ℕ
+  pub line : ℕ
+  pub values : List ℕ
+
+abbrev pub flag : Bool → ℕ
+flag true = 1
+flag false = 0
+
+-- the values of a printed member after its number, and n_D
+abbrev pub values : Finding → List ℕ
+values f =
+    code (f .class)
+    ∷ f .m .0
+    ∷ f .«m_limit» .0
+    ∷ f .rotation .0
+    ∷ f .«rotation_limit» .0
+    ∷ flag (f .over)
+    ∷ f .nd .0
+    ∷ []
+
+abbrev pub found : Finding → Returned
+found f = record { refusal = 0; line = 0; values = values f }
+
+abbrev pub refused : ℕ → Returned
+refused n = record { refusal = n; line = 0; values = [] }
+
+-- what each case of the answer says
+abbrev pub returned : MemberAnswer → Returned
+returned (Judged f) = found f
+returned (Refused n) = refused n
+
+-- what the paper returns
+unfoldable pub memberReturned : ℕ → Bool → Member → Returned
+memberReturned k met m =
+    pick (knowledge k) (pick (eqb (memberFault m) 0) (found (finding k met m)) (refused (memberFault m))) (refused 3)

@@ -1,0 +1,6 @@
+pub mod Units
+pub mod Class
+pub mod Tables
+pub mod Limits
+pub mod Sizes
+pub mod Finding

@@ -1,0 +1,175 @@
+// The tables of limits (document 01, "Member"). A set is data: the places of its rows, and for m and for the rotation the limits that stand there.
+ghost use mathlib.Core.Path.{_≡_};
+ghost use Rattle.members.specs.Tables.{published};
+
+// A number at each of four rows.
+pub struct Four {
+    pub r1: u64,
+    pub r2: u64,
+    pub r3: u64,
+    pub r4: u64,
+}
+
+// A number at each of two rows.
+pub struct Two {
+    pub r1: u64,
+    pub r2: u64,
+}
+
+// Where the rows stand.
+pub struct Places {
+    // n of the columns' rows
+    pub axial: Four,
+    // ρ of column class B
+    pub hoops: Two,
+    // n of the walls' rows
+    pub walls: Two,
+    // v of the walls' rows
+    pub stress: Two,
+}
+
+// The limits at the rows, of m or of the rotation.
+pub struct Table {
+    // column A at the four n
+    pub a: Four,
+    // column B at the four n, at the first and at the second ρ
+    pub b1: Four,
+    pub b2: Four,
+    // column C at the last two n
+    pub c: Two,
+    // wall A with boundary zone at the two v, at the first and at the second n
+    pub zone1: Two,
+    pub zone2: Two,
+    // wall A without
+    pub plain1: Two,
+    pub plain2: Two,
+    // wall B at the two v
+    pub wall: Two,
+}
+
+// A whole set.
+pub struct LimitSet {
+    pub places: Places,
+    pub m: Table,
+    pub rotation: Table,
+}
+
+impl LimitSet {
+    // The set that document 01 publishes.
+    pub fn published() -> Self
+        ensures { λ r. ⌜ r ≡ published ⌝ }
+    {
+        PUBLISHED
+    }
+}
+
+const PUBLISHED: LimitSet = LimitSet {
+    places: Places {
+        axial: Four {
+            r1: 1_000,
+            r2: 6_000,
+            r3: 7_000,
+            r4: 10_000,
+        },
+        hoops: Two { r1: 500, r2: 6_000 },
+        walls: Two {
+            r1: 1_000,
+            r2: 2_500,
+        },
+        stress: Two {
+            r1: 9_000,
+            r2: 13_000,
+        },
+    },
+    m: Table {
+        a: Four {
+            r1: 60_000,
+            r2: 30_000,
+            r3: 10_000,
+            r4: 10_000,
+        },
+        b1: Four {
+            r1: 25_000,
+            r2: 12_500,
+            r3: 10_000,
+            r4: 10_000,
+        },
+        b2: Four {
+            r1: 60_000,
+            r2: 30_000,
+            r3: 10_000,
+            r4: 10_000,
+        },
+        c: Two {
+            r1: 10_000,
+            r2: 10_000,
+        },
+        zone1: Two {
+            r1: 70_000,
+            r2: 40_000,
+        },
+        zone2: Two {
+            r1: 40_000,
+            r2: 25_000,
+        },
+        plain1: Two {
+            r1: 45_000,
+            r2: 25_000,
+        },
+        plain2: Two {
+            r1: 25_000,
+            r2: 15_000,
+        },
+        wall: Two {
+            r1: 50_000,
+            r2: 25_000,
+        },
+    },
+    rotation: Table {
+        a: Four {
+            r1: 40_000,
+            r2: 15_000,
+            r3: 5_000,
+            r4: 0,
+        },
+        b1: Four {
+            r1: 12_500,
+            r2: 5_000,
+            r3: 5_000,
+            r4: 0,
+        },
+        b2: Four {
+            r1: 35_000,
+            r2: 10_000,
+            r3: 5_000,
+            r4: 0,
+        },
+        c: Two { r1: 5_000, r2: 0 },
+        zone1: Two {
+            r1: 30_000,
+            r2: 15_000,
+        },
+        zone2: Two {
+            r1: 20_000,
+            r2: 10_000,
+        },
+        plain1: Two {
+            r1: 15_000,
+            r2: 7_500,
+        },
+        plain2: Two {
+            r1: 10_000,
+            r2: 5_000,
+        },
+        wall: Two {
+            r1: 20_000,
+            r2: 10_000,
+        },
+    },
+};
+
+// The axial ratios per member at which the allowed share of a storey begins to fall and is 0; they stand on the grid of `Ratio`.
+pub const SHARE_ENDS: Two = Two {
+    r1: 1_000,
+    r2: 6_500,
+};

@@ -1,0 +1,139 @@
+-- The call on a storey: its finding from the totals, and the order of its refusals.
+use Prim.Native.Nat.{ℕ, zero, suc, _+_, _*_, _-_, _≤_, _<_}
+use native.Mathlib.Omega.{arith}
+use mathlib.Core.Bool.{Bool, true, false, _&&_, _||_}
+use mathlib.Core.List.{List, [], _∷_}
+use mathlib.Core.Path.{_≡_, refl, ap, sym, _∙_}
+use lib.Dec.{leb, ltb, eqb}
+use lib.ListN.{length, getD}
+use borrow.Author.Tests.{eq-eqb, ne-eqb, eqb-true, leb-true}
+use Rattle.reading.specs.First.{pick, every, inOrder}
+use Rattle.reading.specs.Records.{storeyFault, storeyValues, inRange}
+use Rattle.reading.specs.declared.records.Storey.{Storey}
+use Rattle.reading.specs.declared.records.Member.{Member}
+use Rattle.reading.specs.declared.records.Tag.the-variants.{S}
+use Rattle.reading.proofs.Below.{and-right, every-at}
+use Rattle.reading.proofs.Firsts.{in-order-last, pick-zero, pick-other, pick-clear, pick-both}
+use Rattle.reading.proofs.Files.{count-most}
+use Rattle.reading.proofs.Validity.{clear}
+use Rattle.members.specs.Finding.{axialRatioD, knowledge, refused}
+use Rattle.members.specs.Class.{isWall}
+use Rattle.storeys.specs.declared.StoreyFinding.{StoreyFinding}
+use Rattle.storeys.specs.declared.StoreyAnswer.{StoreyAnswer}
+use Rattle.storeys.specs.declared.StoreyAnswer.the-variants.{Judged, Refused}
+use Rattle.storeys.specs.declared.row.Tally.{Tally}
+use Rattle.storeys.specs.Totals.{total}
+use Rattle.storeys.specs.Storey.{publishedRules, wallShear, meetsWallShare, axialTotal, over, shearIfOver, overShear, someOver, storeyRisky, riskyByDamage, storeyFinding, countFault, knowledgeFault, shearFault, memberAt, noMember, membersFault, storeyCallFault, storeyAnswerBy, storeyAnswer, returnedStorey, storeyReturned}
+use Rattle.storeys.specs.Tally.{tallyOf, Rows, Small, foundBy, headFault, judgedBy}
+use Rattle.storeys.proofs.Rows.{nd-most}
+use Rattle.storeys.proofs.Loops.{row-valid, pick-most}
+
+-- a good storey's shear
+pub shear-most : (s : Storey) → storeyFault s ≡ 0 → s .shear ≤ 9_999_999
+unfolding storeyFault
+shear-most s e =
+    let t = clear (every (inRange S (storeyValues s)) 3) 0 3 e (omega arith) .0 in
+    leb-true (s .shear) 9_999_999 (and-right (leb 1 (s .shear)) (leb (s .shear) 9_999_999) (every-at (inRange S (storeyValues s)) 3 1 t (omega arith)))
+
+-- a total of bounded terms
+total-most : {A : Type 0} (f : A → ℕ) (d : A) (n : ℕ) (xs : List A) → ((j : ℕ) → j < length xs → f (getD xs j d) ≤ n) → total f xs ≤ n * length xs
+unfolding total
+total-most f d n [] h = omega arith
+total-most f d n (x ∷ xs) h =
+    let a : f x ≤ n = h 0 (omega arith) in
+    let b = total-most f d n xs (λ j l. h (suc j) (omega arith)) in
+    omega arith
+
+module _ (rows : List Member) (g : Rows rows) where
+  pub walls-most : total wallShear rows ≤ 10_000_000_000
+  walls-most =
+      omega (arith, g .most, total-most wallShear noMember 9_999_999 rows (λ j l. pick-most (isWall (memberAt rows j)) (memberAt rows j .case .shear) 9_999_999 (row-valid rows g j l .shear)))
+
+  pub tally-small : (s : Storey) (k : ℕ) (met : Bool) (t : Tally) → storeyFault s ≡ 0 → t ≡ tallyOf k met rows → Small s (length rows) t
+  unfolding tallyOf axialTotal overShear
+  tally-small s k met t e q =
+      rw q
+      (record {
+        shear = shear-most s e;
+        rows-most = g .most;
+        axial = omega (arith, g .most, total-most (λ m. axialRatioD m .0) noMember 999_999 rows (λ j l. nd-most (memberAt rows j)));
+        over =
+            omega (arith, g .most, total-most (shearIfOver publishedRules k met) noMember 9_999_999 rows (λ j l. pick-most (over publishedRules k met (memberAt rows j)) (memberAt rows j .case .shear) 9_999_999 (row-valid rows g j l .shear)));
+      })
+
+-- the finding by the totals is the storey's
+pub found-is : (k : ℕ) (s : Storey) (rows : List Member) (w : ℕ) (met : Bool) (t : Tally) (f : StoreyFinding) → w ≡ total wallShear rows → met ≡ leb (2 * s .shear) (5 * w) → t ≡ tallyOf k met rows → f ≡ foundBy s (length rows) met t → f ≡ storeyFinding publishedRules k (s .shear) rows
+unfolding storeyFinding storeyRisky meetsWallShare riskyByDamage tallyOf
+found-is k s rows w met t f a b c d = d ∙ rw (c, b, a)
+
+-- ---- the refusals before the finding
+module _ (k : ℕ) (s : Storey) (rows : List Member) (first : ℕ) (h : first ≡ headFault k s (length rows)) where
+  abbrev p : ℕ
+  p = overShear publishedRules k (meetsWallShare (s .shear) rows) rows
+
+  all-three : storeyCallFault publishedRules k s rows ≡ pick (eqb (pick (eqb first 0) (membersFault rows) first) 0) (shearFault p) (pick (eqb first 0) (membersFault rows) first)
+  unfolding storeyCallFault
+  all-three =
+      in-order-last (countFault (s .count) (length rows) ∷ knowledgeFault k ∷ storeyFault s ∷ membersFault rows ∷ []) (shearFault p)
+      ∙ ap (λ (x : ℕ). pick (eqb x 0) (shearFault p) x)
+        (in-order-last (countFault (s .count) (length rows) ∷ knowledgeFault k ∷ storeyFault s ∷ []) (membersFault rows)
+        ∙ ap (λ (x : ℕ). pick (eqb x 0) (membersFault rows) x) (sym h))
+
+  refused-is : (n : ℕ) → storeyCallFault publishedRules k s rows ≡ n → (n ≡ 0 → ⊥) → Refused n ≡ storeyAnswer k s rows
+  unfolding storeyAnswerBy
+  refused-is n e ne = rw e (simp (ne-eqb n 0 ne))
+
+  returned-is : (n : ℕ) → storeyCallFault publishedRules k s rows ≡ n → (n ≡ 0 → ⊥) → refused n ≡ storeyReturned k s rows
+  unfolding storeyReturned
+  returned-is n e ne = rw e (simp (ne-eqb n 0 ne))
+
+  both-refused : (n : ℕ) (a : StoreyAnswer) → storeyCallFault publishedRules k s rows ≡ n → (n ≡ 0 → ⊥) → a ≡ Refused n → (a ≡ storeyAnswer k s rows) × (returnedStorey a ≡ storeyReturned k s rows)
+  both-refused n a e ne q = (q ∙ refused-is n e ne, ap returnedStorey q ∙ returned-is n e ne)
+
+  pub head-refused : (a : StoreyAnswer) → (first ≡ 0 → ⊥) → a ≡ Refused first → (a ≡ storeyAnswer k s rows) × (returnedStorey a ≡ storeyReturned k s rows)
+  head-refused a ne q = both-refused first a (all-three ∙ rw (pick-other first (membersFault rows) ne) (pick-other first (shearFault p) ne)) ne q
+
+  module _ (z : first ≡ 0) (f : ℕ) (fp : f ≡ membersFault rows) where
+    after : storeyCallFault publishedRules k s rows ≡ pick (eqb f 0) (shearFault p) f
+    after = all-three ∙ rw (pick-zero first (membersFault rows) z, ← fp)
+
+    pub rows-refused : (a : StoreyAnswer) → (f ≡ 0 → ⊥) → a ≡ Refused f → (a ≡ storeyAnswer k s rows) × (returnedStorey a ≡ storeyReturned k s rows)
+    rows-refused a ne q = both-refused f a (after ∙ pick-other f (shearFault p) ne) ne q
+
+    clear-head : inOrder (countFault (s .count) (length rows) ∷ knowledgeFault k ∷ storeyFault s ∷ []) ≡ 0
+    clear-head = sym h ∙ z
+
+    test-clear : (t : Bool) (r : ℕ) → 0 < r → pick t 0 r ≡ 0 → t ≡ true
+    test-clear true r l e = refl
+    test-clear false r l e = let y : ⊥ = omega (arith, e) in absurd y
+
+    pub storey-clear : storeyFault s ≡ 0
+    storey-clear =
+        let a = pick-both (countFault (s .count) (length rows)) (inOrder (knowledgeFault k ∷ storeyFault s ∷ [])) clear-head in
+        let b = pick-both (knowledgeFault k) (inOrder (storeyFault s ∷ [])) a in
+        pick-clear (storeyFault s) 0 b
+
+    pub level-clear : knowledge k ≡ true
+    level-clear =
+        let a = pick-both (countFault (s .count) (length rows)) (inOrder (knowledgeFault k ∷ storeyFault s ∷ [])) clear-head in
+        test-clear (knowledge k) 3 (omega arith) (pick-clear (knowledgeFault k) (inOrder (storeyFault s ∷ [])) a)
+
+    count-is : s .count ≡ length rows
+    count-is =
+        eqb-true (s .count) (length rows)
+        (test-clear (eqb (s .count) (length rows)) 1 (omega arith) (pick-clear (countFault (s .count) (length rows)) (inOrder (knowledgeFault k ∷ storeyFault s ∷ [])) clear-head))
+
+    pub rows-clear : f ≡ 0 → Rows rows
+    rows-clear y = record { good = sym fp ∙ y; most = omega (arith, count-is, count-most s storey-clear) }
+
+    module _ (y : f ≡ 0) where
+      last-is : storeyCallFault publishedRules k s rows ≡ shearFault p
+      last-is = after ∙ pick-zero f (shearFault p) y
+
+      by-shear : (t : Bool) (x : StoreyFinding) → leb p 9_999_999_999 ≡ t → x ≡ storeyFinding publishedRules k (s .shear) rows → (judgedBy x ≡ storeyAnswer k s rows) × (returnedStorey (judgedBy x) ≡ storeyReturned k s rows)
+      unfolding storeyAnswerBy storeyReturned storeyFinding
+      by-shear true x e q = rw (q, last-is) (simp e (refl, refl))
+      by-shear false x e q = rw (q, last-is) (simp e (refl, refl))
+
+      pub judged-is : (a : StoreyAnswer) (x : StoreyFinding) → x ≡ storeyFinding publishedRules k (s .shear) rows → a ≡ judgedBy x → (a ≡ storeyAnswer k s rows) × (returnedStorey a ≡ storeyReturned k s rows)
+      judged-is a x q e = rw e (by-shear (leb p 9_999_999_999) x refl q)

@@ -1,0 +1,140 @@
+-- Demand 3, proved: for every set of rules that keep the order of the load, and so for the published ones.
+use Prim.Native.Nat.{ℕ, zero, suc, _≤_, _<_, max}
+use native.Mathlib.Nat.{le-refl}
+use native.Mathlib.Omega.{arith}
+use mathlib.Core.Bool.{Bool, true, _||_, or-false, or-assoc}
+use mathlib.Core.List.{List, [], _∷_, _++_}
+use mathlib.Core.Path.{_≡_, refl, sym, _∙_}
+use lib.ListN.{length}
+use Rattle.reading.specs.First.{any}
+use Rattle.reading.specs.Records.{memberFault}
+use Rattle.reading.specs.Survey.{listed}
+use Rattle.reading.proofs.Validity.{valid}
+use Rattle.members.specs.Finding.{answerBy}
+use Rattle.members.proofs.Order.{published-ordered}
+use Rattle.storeys.specs.declared.BuildingAnswer.{BuildingAnswer}
+use Rattle.storeys.specs.Totals.{some}
+use Rattle.storeys.specs.Storey.{Rules, publishedRules, orderly, meetsWallShare, over, storeyRisky, storeyAnswerBy}
+use Rattle.storeys.specs.Building.{riskyAt, someRisky, buildingRisky, tiltAllowed, tilted}
+use Rattle.storeys.specs.Pairing.{EveryPair}
+use Rattle.storeys.specs.Demand3.{Survey, level, Floor, floorAt, floors, Accepted, overIn, riskyIn, Over, Risky, MemberPairs, StoreyPairs, Severer, SevererStorey, NowhereBetter, Carried, Demand3}
+use Rattle.storeys.proofs.Tests.{or-carried, excess-carried, at-equals}
+use Rattle.storeys.proofs.Pairs.{each, both, of-all, some-carried}
+use Rattle.storeys.proofs.Storeys.{Orderly, rules-ordered, Known, overs-carried, risky-carried}
+use Rattle.storeys.proofs.Accepted.{Sound, level-positive, has-members, good-members, risky-found, over-found, verdict-found, level-known, sound-floors}
+
+-- two storeys that are partners, judged with the levels j and k
+module _ (rules : Rules) (good : Orderly rules) (j k : ℕ) (same : j ≡ k) (pos : 0 < j) (f g : Floor) (ms : MemberPairs (f .members) (g .members)) (sf : Sound rules j f) (sg : Sound rules k g) (worse : SevererStorey j f g ms) where
+  shear-same : f .storey .shear ≡ g .storey .shear
+  shear-same = omega (arith, worse .shear)
+
+  faultless : EveryPair (λ m n u. (memberFault m ≡ 0) × (memberFault n ≡ 0)) ms
+  faultless = of-all (λ m. memberFault m ≡ 0) (λ m. memberFault m ≡ 0) ms (good-members rules j f sf) (good-members rules k g sg)
+
+  known : EveryPair (Known j) ms
+  known =
+      each (λ m n u. ((memberFault m ≡ 0) × (memberFault n ≡ 0)) × Severer j m n) (Known j) (λ m n u h. ((valid m (h .0 .0), valid n (h .0 .1)), h .1)) ms
+      (both (λ m n u. (memberFault m ≡ 0) × (memberFault n ≡ 0)) (λ m n u. Severer j m n) ms faultless (worse .members))
+
+  -- the 0.40 conditions
+  abbrev metF : Bool
+  metF = meetsWallShare (f .storey .shear) (f .members)
+
+  abbrev metG : Bool
+  metG = meetsWallShare (g .storey .shear) (g .members)
+
+  overs : EveryPair (λ m n u. over rules j metF m ≡ true → over rules k metG n ≡ true) ms
+  overs =
+      at-equals (λ l w. EveryPair (λ m n u. over rules j metF m ≡ true → over rules l (meetsWallShare w (g .members)) n ≡ true) ms) same shear-same
+      (overs-carried rules good j (f .storey .shear) pos ms known)
+
+  members-carried : EveryPair (λ m n u. overIn (answerBy (rules .limits) j metF m) ≡ true → overIn (answerBy (rules .limits) k metG n) ≡ true) ms
+  members-carried =
+      each
+      (λ m n u. ((memberFault m ≡ 0) × (memberFault n ≡ 0)) × (over rules j metF m ≡ true → over rules k metG n ≡ true))
+      (λ m n u. overIn (answerBy (rules .limits) j metF m) ≡ true → overIn (answerBy (rules .limits) k metG n) ≡ true)
+      (λ m n u h e. over-found rules k g sg metG n (h .0 .1) ∙ h .1 (sym (over-found rules j f sf metF m (h .0 .0)) ∙ e)) ms
+      (both (λ m n u. (memberFault m ≡ 0) × (memberFault n ≡ 0)) (λ m n u. over rules j metF m ≡ true → over rules k metG n ≡ true) ms faultless overs)
+
+  risky-kept : storeyRisky rules j (f .storey .shear) (f .members) ≡ true → storeyRisky rules k (g .storey .shear) (g .members) ≡ true
+  risky-kept e =
+      at-equals (λ l w. storeyRisky rules l w (g .members) ≡ true) same shear-same
+      (risky-carried rules good j (f .storey .shear) pos ms known (has-members rules j f sf) e)
+
+  storey-carried : riskyIn (storeyAnswerBy rules j (f .storey) (f .members)) ≡ true → riskyIn (storeyAnswerBy rules k (g .storey) (g .members)) ≡ true
+  storey-carried e = risky-found rules k g sg ∙ risky-kept (sym (risky-found rules j f sf) ∙ e)
+
+-- some storey of a building is Risky: some of its floors is
+some-after : {A : Type 0} (p : A → Bool) (xs : List A) (x : A) → some p (xs ++ (x ∷ [])) ≡ (some p xs || p x)
+unfolding some
+some-after p [] x = or-false (p x)
+some-after p (y ∷ xs) x = rw (some-after p xs x) (sym (or-assoc (p y) (some p xs) (p x)))
+
+some-listed : {A : Type 0} (p : A → Bool) (f : ℕ → A) (n : ℕ) → some p (listed f n) ≡ any (λ i. p (f i)) n
+unfolding some listed any
+some-listed p f zero = refl
+some-listed p f (suc n) = rw (some-after p (listed f n) (f n), some-listed p f n)
+
+-- a floor's verdict
+abbrev verdict : Rules → ℕ → Floor → Bool
+verdict rules k f = storeyRisky rules k (f .storey .shear) (f .members)
+
+some-floor : (rules : Rules) (a : Survey) → some (verdict rules (level a)) (floors a) ≡ someRisky rules (a .header) (a .storeys) (a .members)
+unfolding someRisky riskyAt
+some-floor rules a = some-listed (verdict rules (level a)) (floorAt a) (length (a .storeys))
+
+tilt-carried : (a b : Survey) → a .header .tilt1 ≤ b .header .tilt1 → a .header .tilt2 ≤ b .header .tilt2 → tilted (a .header) ≡ true → tilted (b .header) ≡ true
+unfolding tilted
+tilt-carried a b h l =
+    excess-carried tiltAllowed (max (a .header .tilt1) (a .header .tilt2)) tiltAllowed (max (b .header .tilt1) (b .header .tilt2)) (le-refl tiltAllowed) (omega (arith, h, l))
+
+module _ (rules : Rules) (good : Orderly rules) (a b : Survey) (r q : BuildingAnswer) (ra : Accepted rules a r) (rb : Accepted rules b q) (pairs : StoreyPairs a b) (worse : NowhereBetter a b pairs) where
+  same-level : level a ≡ level b
+  same-level = omega (arith, worse .knowledge)
+
+  positive : 0 < level a
+  positive = level-positive (level a) (level-known rules a r ra)
+
+  abbrev Facts : (f g : Floor) → MemberPairs (f .members) (g .members) → Type 0
+  Facts f g ms = (Sound rules (level a) f × Sound rules (level b) g) × SevererStorey (level a) f g ms
+
+  facts : EveryPair Facts pairs
+  facts =
+      both (λ f g ms. Sound rules (level a) f × Sound rules (level b) g) (λ f g ms. SevererStorey (level a) f g ms) pairs
+      (of-all (Sound rules (level a)) (Sound rules (level b)) pairs (sound-floors rules a r ra) (sound-floors rules b q rb)) (worse .storeys)
+
+  verdicts : EveryPair (λ f g ms. verdict rules (level a) f ≡ true → verdict rules (level b) g ≡ true) pairs
+  verdicts =
+      each Facts (λ f g ms. verdict rules (level a) f ≡ true → verdict rules (level b) g ≡ true)
+      (λ f g ms h. risky-kept rules good (level a) (level b) same-level positive f g ms (h .0 .0) (h .0 .1) (h .1)) pairs facts
+
+  building-kept : buildingRisky rules (a .header) (a .storeys) (a .members) ≡ true → buildingRisky rules (b .header) (b .storeys) (b .members) ≡ true
+  unfolding buildingRisky
+  building-kept =
+      or-carried _ _ _ _
+      (λ e. sym (some-floor rules b) ∙ some-carried (verdict rules (level a)) (verdict rules (level b)) pairs verdicts (some-floor rules a ∙ e))
+      (tilt-carried a b (worse .tilt1) (worse .tilt2))
+
+  carried : Carried rules a b r q pairs
+  carried =
+      record {
+        members =
+            each Facts (λ f g ms. EveryPair (λ m n u. Over rules a f m → Over rules b g n) ms)
+            (λ f g ms h. members-carried rules good (level a) (level b) same-level positive f g ms (h .0 .0) (h .0 .1) (h .1)) pairs facts;
+        storeys =
+            each Facts (λ f g ms. Risky rules a f → Risky rules b g)
+            (λ f g ms h. storey-carried rules good (level a) (level b) same-level positive f g ms (h .0 .0) (h .0 .1) (h .1)) pairs facts;
+        building = λ e. verdict-found rules b q rb ∙ building-kept (sym (verdict-found rules a r ra) ∙ e);
+      }
+
+-- for every set of rules whose limits and share ends keep the order
+pub demand3-by : (rules : Rules) → orderly rules ≡ true → Demand3 rules
+demand3-by rules e a b r q ra rb pairs worse = carried rules (rules-ordered rules e) a b r q ra rb pairs worse
+
+-- the published rules do
+published-orderly : orderly publishedRules ≡ true
+published-orderly = rw published-ordered
+
+-- DEMAND 3
+pub demand3 : Demand3 publishedRules
+demand3 = demand3-by publishedRules published-orderly

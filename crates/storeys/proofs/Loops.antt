@@ -1,0 +1,203 @@
+-- The loops over a storey's rows: what holds after j of them, one turn, and the end.
+use Prim.Native.Nat.{ℕ, zero, suc, _+_, _*_, _-_, _≤_, _<_}
+use native.Mathlib.Omega.{arith}
+use native.Mathlib.Numerals.{add-one}
+use mathlib.Core.Bool.{Bool, true, false, _&&_, _||_, or-false, or-assoc}
+use mathlib.Core.List.{List, [], _∷_}
+use mathlib.Core.Path.{_≡_, refl, ap, sym, _∙_}
+use lib.Dec.{leb, ltb, eqb}
+use lib.ListN.{length, drop, getD, drop-of-length-le}
+use lib.Seq.{drop-cons}
+use borrow.Author.Tests.{eq-eqb, ne-eqb, eqb-true, eqb-false}
+use Rattle.reading.specs.First.{pick, any, inOrder, first}
+use Rattle.reading.specs.Records.{memberFault, storeyFault}
+use Rattle.reading.specs.Survey.{repeated}
+use Rattle.reading.specs.Valid.{Valid}
+use Rattle.reading.specs.declared.records.Storey.{Storey}
+use Rattle.reading.specs.declared.records.Member.{Member}
+use Rattle.reading.proofs.Below.{any-none, any-more, any-holds}
+use Rattle.reading.proofs.Firsts.{first-none, first-next, first-kept, first-clear, pick-clear}
+use Rattle.reading.proofs.Validity.{valid}
+use Rattle.members.specs.Class.{isWall}
+use Rattle.members.specs.Finding.{axialRatioD, knowledge, flag}
+use Rattle.storeys.specs.Totals.{total, some}
+use Rattle.storeys.specs.Storey.{publishedRules, wallShear, axialTotal, over, shearIfOver, overShear, someOver, damaged, memberAt, noMember, rowFault, membersFault}
+use Rattle.storeys.specs.declared.row.Tally.{Tally}
+use Rattle.storeys.specs.Tally.{weightOf, noTally, added, addedBy, tallyOf, Rows, AddsUp}
+use Rattle.storeys.proofs.Rows.{nd-most}
+
+-- ---- a number among those before
+module _ (rows : List Member) (v n : ℕ) where
+  abbrev same : ℕ → Bool
+  same e = eqb (memberAt rows e .number) v
+
+  pub unseen : any same 0 ≡ false
+  unseen = any-none same
+
+  pub unseen-next : (e r : ℕ) → any same e ≡ false → r ≡ memberAt rows e .number → eqb r v ≡ false → any same (e + 1) ≡ false
+  unseen-next e r h p q = any-more same e h (rw p at q)
+
+  pub seen-here : (e r : ℕ) → e < n → r ≡ memberAt rows e .number → eqb r v ≡ true → _≡_ {A = ℕ} 5 (pick (any same n) 5 0)
+  seen-here e r h p q = rw (any-holds same n e h (rw p at q))
+
+  pub unseen-all : (e : ℕ) → any same e ≡ false → e ≤ n → n ≤ e → _≡_ {A = ℕ} 0 (pick (any same n) 5 0)
+  unseen-all e h p q = let z : e ≡ n = omega arith in rw (rw z at h)
+
+-- ---- the first refusal of the members
+module _ (rows : List Member) where
+  pub clear-none : first 0 (λ r. r) (rowFault rows) 0 ≡ 0
+  clear-none = first-none 0 (λ r. r) (rowFault rows)
+
+  module _ (j : ℕ) (n x f : ℕ) (c : first 0 (λ r. r) (rowFault rows) j ≡ 0) (np : n ≡ memberAt rows j .number) (xp : x ≡ pick (any (λ (e : ℕ). eqb (memberAt rows e .number) n) j) 5 0) (fp : f ≡ inOrder (memberFault (memberAt rows j) ∷ x ∷ [])) where
+    fault-is : f ≡ rowFault rows j
+    unfolding rowFault
+    fault-is = fp ∙ rw (xp, np)
+
+    pub refused-here : j < length rows → (f ≡ 0 → ⊥) → f ≡ membersFault rows
+    unfolding membersFault
+    refused-here h ne =
+        let e : first 0 (λ r. r) (rowFault rows) (j + 1) ≡ f = first-next 0 (λ r. r) (rowFault rows) j c ∙ sym fault-is in
+        sym (first-kept 0 (λ r. r) (rowFault rows) (j + 1) (length rows) (omega arith) (λ z. ne (sym e ∙ z)) ∙ e)
+
+    pub clear-next : f ≡ 0 → first 0 (λ r. r) (rowFault rows) (j + 1) ≡ 0
+    clear-next z = first-next 0 (λ r. r) (rowFault rows) j c ∙ sym fault-is ∙ z
+
+  pub clear-all : (j : ℕ) → first 0 (λ r. r) (rowFault rows) j ≡ 0 → j ≤ length rows → length rows ≤ j → 0 ≡ membersFault rows
+  unfolding membersFault
+  clear-all j c h g = let z : j ≡ length rows = omega arith in sym (rw z at c)
+
+-- ---- totals
+module _ {A : Type 0} (f : A → ℕ) (d : A) where
+  pub total-drop : (xs : List A) (j : ℕ) → j < length xs → total f (drop j xs) ≡ f (getD xs j d) + total f (drop (j + 1) xs)
+  unfolding total
+  total-drop xs j h = rw (add-one j, drop-cons xs j d h)
+
+  pub total-end : (xs : List A) (j : ℕ) → length xs ≤ j → total f (drop j xs) ≡ 0
+  unfolding total
+  total-end xs j h = rw (drop-of-length-le xs h)
+
+some-drop : {A : Type 0} (p : A → Bool) (d : A) (xs : List A) (j : ℕ) → j < length xs → some p (drop j xs) ≡ (p (getD xs j d) || some p (drop (j + 1) xs))
+unfolding some
+some-drop p d xs j h = rw (add-one j, drop-cons xs j d h)
+
+some-end : {A : Type 0} (p : A → Bool) (xs : List A) (j : ℕ) → length xs ≤ j → some p (drop j xs) ≡ false
+unfolding some
+some-end p xs j h = rw (drop-of-length-le xs h)
+
+pub pick-most : (t : Bool) (a n : ℕ) → a ≤ n → pick t a 0 ≤ n
+pick-most true a n h = h
+pick-most false a n h = omega arith
+
+-- ---- good rows
+module _ (rows : List Member) (g : Rows rows) (j : ℕ) (h : j < length rows) where
+  pub row-good : memberFault (memberAt rows j) ≡ 0
+  unfolding membersFault rowFault
+  row-good = pick-clear (memberFault (memberAt rows j)) _ (first-clear 0 (λ r. r) (rowFault rows) (length rows) j (g .good) h)
+
+  pub row-valid : Valid (memberAt rows j)
+  row-valid = valid (memberAt rows j) row-good
+
+  -- ---- the walls' V
+  pub wall-room : (t : ℕ) → t ≤ 9_999_999 * j → (t ≤ 10_000_000_000) × (memberAt rows j .case .shear ≤ 9_999_999)
+  wall-room t l = (omega (arith, g .most), row-valid .shear)
+
+  pub wall-next : (t r : ℕ) → t + total wallShear (drop j rows) ≡ total wallShear rows → t ≤ 9_999_999 * j → r ≡ t + wallShear (memberAt rows j) → (r + total wallShear (drop (j + 1) rows) ≡ total wallShear rows) × (r ≤ 9_999_999 * (j + 1))
+  wall-next t r e l q =
+      (omega (arith, total-drop wallShear noMember rows j h), omega (arith, pick-most (isWall (memberAt rows j)) (memberAt rows j .case .shear) 9_999_999 (row-valid .shear)))
+
+pub wall-all : (rows : List Member) (t j : ℕ) → t + total wallShear (drop j rows) ≡ total wallShear rows → length rows ≤ j → t ≡ total wallShear rows
+wall-all rows t j e h = omega (arith, total-end wallShear noMember rows j h)
+
+-- ---- all the totals
+abbrev pub weighed : ℕ → List Member → ℕ
+weighed j ms = 20 * damaged 1 (drop j ms) + 28 * damaged 2 (drop j ms) + 35 * damaged 3 (drop j ms) + 140 * damaged 4 (drop j ms)
+
+pub record Going (k : ℕ) (met : Bool) (rows : List Member) (t : Tally) (j : ℕ) : Type 0 where
+  pub axial : t .axial + axialTotal (drop j rows) ≡ axialTotal rows
+  pub shears : t .over + overShear publishedRules k met (drop j rows) ≡ overShear publishedRules k met rows
+  pub anyone : (t .some || someOver publishedRules k met (drop j rows)) ≡ someOver publishedRules k met rows
+  pub damage : t .damage + weighed j rows ≡ weighed 0 rows
+  pub axial-most : t .axial ≤ 999_999 * j
+  pub over-most : t .over ≤ 9_999_999 * j
+  pub damage-most : t .damage ≤ 140 * j
+
+tally-is : (t : Tally) (a b d : ℕ) (c : Bool) → t .axial ≡ a → t .over ≡ b → t .some ≡ c → t .damage ≡ d → t ≡ record { axial = a; over = b; some = c; damage = d }
+tally-is t a b d c e f g h = rw (← e, ← f, ← g, ← h)
+
+module _ (k : ℕ) (met : Bool) (rows : List Member) where
+  pub going-none : Going k met rows noTally 0
+  going-none =
+      record {
+        axial = omega arith;
+        shears = omega arith;
+        anyone = refl;
+        damage = omega arith;
+        axial-most = omega arith;
+        over-most = omega arith;
+        damage-most = omega arith;
+      }
+
+  module _ (g : Rows rows) (t : Tally) (j : ℕ) (u : Going k met rows t j) (h : j < length rows) where
+    pub tally-room : knowledge k ≡ true → AddsUp t k (memberAt rows j)
+    tally-room l =
+        record {
+          level = l;
+          good = row-good rows g j h;
+          axial = omega (arith, u .axial-most, g .most);
+          over = omega (arith, u .over-most, g .most);
+          damage = omega (arith, u .damage-most, g .most);
+        }
+
+    weight-most : (d : ℕ) → d ≤ 4 → weightOf d ≤ 140
+    weight-most zero l = omega arith
+    weight-most (suc zero) l = omega arith
+    weight-most (suc (suc zero)) l = omega arith
+    weight-most (suc (suc (suc zero))) l = omega arith
+    weight-most (suc (suc (suc (suc zero)))) l = omega arith
+    weight-most (suc (suc (suc (suc (suc d))))) l = let z : ⊥ = omega arith in absurd z
+
+    next-axial : (t .axial + axialRatioD (memberAt rows j) .0) + axialTotal (drop (j + 1) rows) ≡ axialTotal rows
+    unfolding axialTotal
+    next-axial = omega (arith, u .axial, total-drop (λ m. axialRatioD m .0) noMember rows j h)
+
+    next-shears : (t .over + shearIfOver publishedRules k met (memberAt rows j)) + overShear publishedRules k met (drop (j + 1) rows) ≡ overShear publishedRules k met rows
+    unfolding overShear
+    next-shears = omega (arith, u .shears, total-drop (shearIfOver publishedRules k met) noMember rows j h)
+
+    next-anyone : ((t .some || over publishedRules k met (memberAt rows j)) || someOver publishedRules k met (drop (j + 1) rows)) ≡ someOver publishedRules k met rows
+    unfolding someOver
+    next-anyone =
+        or-assoc (t .some) (over publishedRules k met (memberAt rows j)) (some (over publishedRules k met) (drop (j + 1) rows))
+        ∙ ap (λ (b : Bool). t .some || b) (sym (some-drop (over publishedRules k met) noMember rows j h))
+        ∙ u .anyone
+
+    kinds : (kind : ℕ) → damaged kind (drop j rows) ≡ flag (eqb (memberAt rows j .damage) kind) + damaged kind (drop (j + 1) rows)
+    unfolding damaged
+    kinds kind = total-drop (λ m. flag (eqb (m .damage) kind)) noMember rows j h
+
+    next-damage : (t .damage + weightOf (memberAt rows j .damage)) + weighed (j + 1) rows ≡ weighed 0 rows
+    next-damage = omega (arith, u .damage, kinds 1, kinds 2, kinds 3, kinds 4)
+
+    pub going-next : (r : Tally) → r ≡ added t k met (memberAt rows j) → Going k met rows r (j + 1)
+    unfolding added
+    going-next r e =
+        rw e
+        (record {
+          axial = next-axial;
+          shears = next-shears;
+          anyone = next-anyone;
+          damage = next-damage;
+          axial-most = omega (arith, u .axial-most, nd-most (memberAt rows j));
+          over-most = omega (arith, u .over-most, pick-most (over publishedRules k met (memberAt rows j)) (memberAt rows j .case .shear) 9_999_999 (row-valid rows g j h .shear));
+          damage-most = omega (arith, u .damage-most, weight-most (memberAt rows j .damage) (row-valid rows g j h .damage));
+        })
+
+  pub going-all : (t : Tally) (j : ℕ) → Going k met rows t j → length rows ≤ j → t ≡ tallyOf k met rows
+  unfolding tallyOf axialTotal overShear someOver damaged
+  going-all t j u h =
+      let a : t .axial ≡ axialTotal rows = omega (arith, u .axial, total-end (λ m. axialRatioD m .0) noMember rows j h) in
+      let b : t .over ≡ overShear publishedRules k met rows = omega (arith, u .shears, total-end (shearIfOver publishedRules k met) noMember rows j h) in
+      let c : t .some ≡ someOver publishedRules k met rows = sym (or-false (t .some)) ∙ ap (λ (x : Bool). t .some || x) (sym (some-end (over publishedRules k met) rows j h)) ∙ u .anyone in
+      let d : t .damage ≡ weighed 0 rows =
+          omega (arith, u .damage, total-end (λ m. flag (eqb (m .damage) 1)) noMember rows j h, total-end (λ m. flag (eqb (m .damage) 2)) noMember rows j h, total-end (λ m. flag (eqb (m .damage) 3)) noMember rows j h, total-end (λ m. flag (eqb (m .damage) 4)) noMember rows j h) in
+      tally-is t _ _ _ _ a b c d

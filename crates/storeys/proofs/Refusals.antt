@@ -1,0 +1,66 @@
+-- Where there is no refusal, none of the checks refuses.
+use Prim.Native.Nat.{ℕ, zero, suc, _<_}
+use native.Mathlib.Omega.{arith}
+use native.Mathlib.Nat.{not-suc-le-zero, eq-or-lt-of-le, le-of-suc-le-suc}
+use mathlib.Core.Bool.{Bool, true, false}
+use mathlib.Core.List.{List, [], _∷_, _++_}
+use mathlib.Core.Logic.{⊎-elim}
+use mathlib.Core.Path.{_≡_, refl}
+use lib.Dec.{eqb}
+use lib.ListN.{length, getD}
+use borrow.Author.Tests.{eqb-true, eqb-false, eq-eqb}
+use Rattle.reading.specs.First.{pick, inOrder, first}
+use Rattle.reading.specs.Survey.{listed}
+use Rattle.reading.proofs.Validity.{clear}
+use Rattle.storeys.specs.Storey.{countFault}
+use Rattle.storeys.proofs.Pairs.{All, empty, next}
+
+-- the first of two refusals is none
+chosen-clear : (t : Bool) (a later : ℕ) → eqb a 0 ≡ t → pick t later a ≡ 0 → (a ≡ 0) × (later ≡ 0)
+chosen-clear true a later e f = (eqb-true a 0 e, f)
+chosen-clear false a later e f = absurd (eqb-false a 0 e f)
+
+-- a list of refusals, none of which is one
+pub data None : List ℕ → Type 0 where
+  end : None []
+  also : {a : ℕ} {later : List ℕ} → a ≡ 0 → None later → None (a ∷ later)
+
+pub in-order-clear : (rs : List ℕ) → inOrder rs ≡ 0 → None rs
+in-order-clear [] e = end
+in-order-clear (a ∷ later) e =
+    let c = chosen-clear (eqb a 0) a (inOrder later) refl e in
+    also (c .0) (in-order-clear later (c .1))
+
+pub in-order-none : {rs : List ℕ} → None rs → inOrder rs ≡ 0
+in-order-none end = refl
+in-order-none (also {a = a} e later) = rw (eq-eqb a 0 e) (in-order-none later)
+
+pub one : {a : ℕ} {later : List ℕ} → None (a ∷ later) → a ≡ 0
+one (also e later) = e
+
+pub rest : {a : ℕ} {later : List ℕ} → None (a ∷ later) → None later
+rest (also e later) = later
+
+pub first-clear : (f : ℕ → ℕ) (n : ℕ) → first 0 (λ r. r) f n ≡ 0 → (i : ℕ) → i < n → f i ≡ 0
+unfolding first
+first-clear f zero e i h = absurd (not-suc-le-zero h)
+first-clear f (suc n) e i h =
+    let c = chosen-clear (eqb (first 0 (λ r. r) f n) 0) (first 0 (λ r. r) f n) (f n) refl e in
+    ⊎-elim (λ (q : i ≡ n). rw q (c .1)) (λ (l : i < n). first-clear f n (c .0) i l) (eq-or-lt-of-le (le-of-suc-le-suc h))
+
+pub count-clear : (count rows : ℕ) → countFault count rows ≡ 0 → count ≡ rows
+count-clear count rows e = eqb-true count rows (clear (eqb count rows) 0 1 e (omega arith) .0)
+
+-- what holds of each place of a list holds of all its elements
+pub all-rows : {A : Type 0} (P : A → Type 0) (d : A) (xs : List A) → ((j : ℕ) → j < length xs → P (getD xs j d)) → All P xs
+all-rows P d [] h = empty
+all-rows P d (x ∷ xs) h = next (h 0 (omega arith)) (all-rows P d xs (λ j l. h (suc j) (omega arith)))
+
+all-after : {A : Type 0} (P : A → Type 0) (xs : List A) (x : A) → All P xs → P x → All P (xs ++ (x ∷ []))
+all-after P [] x a h = next h empty
+all-after P (y ∷ xs) x (next k a) h = next k (all-after P xs x a h)
+
+pub all-listed : {A : Type 0} (P : A → Type 0) (f : ℕ → A) (n : ℕ) → ((i : ℕ) → i < n → P (f i)) → All P (listed f n)
+unfolding listed
+all-listed P f zero h = empty
+all-listed P f (suc n) h = all-after P (listed f n) (f n) (all-listed P f n (λ i l. h i (omega arith))) (h n (omega arith))

@@ -1,0 +1,103 @@
+-- The steps of a pass over a storey's rows: one record, and the tests of a storey.
+use Prim.Native.Nat.{ℕ, _+_, _*_, _-_, _≤_, _<_}
+use native.Mathlib.Omega.{arith}
+use native.Mathlib.Nat.{mul-le-mul}
+use mathlib.Core.Bool.{Bool, true, false, _&&_, _||_, or-true, or-false, and-false, and-true}
+use mathlib.Core.List.{List, [], _∷_}
+use mathlib.Core.Path.{_≡_, refl, sym, ap, _∙_}
+use lib.Dec.{leb, ltb, eqb}
+use Rattle.reading.specs.First.{pick, inOrder}
+use Rattle.reading.proofs.Firsts.{last-of, pick-zero, pick-other}
+use Rattle.storeys.specs.Storey.{exceedsShare, publishedRules}
+use Rattle.storeys.specs.declared.row.Tally.{Tally}
+use Rattle.storeys.specs.Tally.{weightOf, riskyBy, added, addedBy, AddsUp, AddsNumbers}
+use Rattle.reading.specs.Records.{memberFault}
+use Rattle.reading.specs.declared.records.Member.{Member}
+use Rattle.reading.proofs.Validity.{valid}
+use Rattle.members.specs.declared.finding.Finding.{Finding}
+use Rattle.members.specs.declared.finding.MemberAnswer.{MemberAnswer}
+use Rattle.members.specs.declared.finding.MemberAnswer.the-variants.{Judged, Refused}
+use Rattle.members.specs.Finding.{axial, axialRatioD, finding, findingBy, knowledge, answerBy, memberAnswer}
+
+-- the first of two refusals
+pub two-first : (a b : ℕ) → (a ≡ 0 → ⊥) → a ≡ inOrder (a ∷ b ∷ [])
+two-first a b h = sym (pick-other a (inOrder (b ∷ [])) h)
+
+pub two-second : (a b : ℕ) → a ≡ 0 → b ≡ inOrder (a ∷ b ∷ [])
+two-second a b h = sym (pick-zero a (inOrder (b ∷ [])) h ∙ last-of b)
+
+-- the products of the share test fit
+pub share-left : (w d : ℕ) → w ≤ 9_999_999 → d ≤ 1_300_000 → 7 * w * d ≤ 90_999_990_900_000
+share-left w d h g = omega (arith, mul-le-mul h g)
+
+pub share-right : (c p : ℕ) → c ≤ 200 → p ≤ 10_000_000_000 → 110_000 * c * p ≤ 220_000_000_000_000_000
+share-right c p h g = omega (arith, mul-le-mul h g)
+
+-- the order in which the tests of a storey are made
+or-first : (x z : Bool) → x ≡ true → true ≡ (x || z)
+or-first x z e = rw e
+
+or-last : (x y z : Bool) → z ≡ true → true ≡ (x || (y || z))
+or-last x y z e = rw (e, or-true y, or-true x)
+
+or-none : (x y z s : Bool) → x ≡ false → z ≡ false → y ≡ false → false ≡ (x || ((y && s) || z))
+or-none x y z s e f g = rw (e, f, g)
+
+or-some : (x y z s : Bool) → x ≡ false → z ≡ false → y ≡ true → s ≡ (x || ((y && s) || z))
+or-some x y z s e f g = rw (e, f, g) (sym (or-false s))
+
+module _ (shear c : ℕ) (t : Tally) where
+  abbrev shared : Bool
+  shared = exceedsShare (publishedRules .ends) (t .axial) c (t .over) shear
+
+  abbrev loaded : Bool
+  loaded = ltb (publishedRules .ends .r2 * c) (t .axial)
+
+  abbrev hurt : Bool
+  hurt = leb (7 * c) (t .damage)
+
+  pub risky-first : shared ≡ true → true ≡ riskyBy shear c t
+  risky-first e = or-first shared _ e
+
+  pub risky-second : hurt ≡ true → true ≡ riskyBy shear c t
+  risky-second e = or-last shared (loaded && t .some) hurt e
+
+  pub risky-third : shared ≡ false → hurt ≡ false → loaded ≡ false → false ≡ riskyBy shear c t
+  risky-third e f g = or-none shared loaded hurt (t .some) e f g
+
+  pub risky-last : shared ≡ false → hurt ≡ false → loaded ≡ true → t .some ≡ riskyBy shear c t
+  risky-last e f g = or-some shared loaded hurt (t .some) e f g
+
+-- ---- a good member is judged, and its n_D is a ratio
+module _ (k : ℕ) (met : Bool) (m : Member) (h : knowledge k ≡ true) (g : memberFault m ≡ 0) where
+  judged-good : memberAnswer k met m ≡ Judged (finding k met m)
+  unfolding answerBy
+  judged-good = rw (h, g)
+
+  pub finding-same : (r : MemberAnswer) (f : Finding) → r ≡ memberAnswer k met m → r ≡ Judged f → f ≡ finding k met m
+  finding-same r f p q = let e = judged-good in cc
+
+  pub not-refused : (r : MemberAnswer) (n : ℕ) → r ≡ memberAnswer k met m → r ≡ Refused n → ⊥
+  not-refused r n p q = let e = judged-good in let z : _≡_ {A = ℕ} 0 1 = cc in omega arith
+
+pub nd-most : (m : Member) → axialRatioD m .0 ≤ 999_999
+unfolding axial
+nd-most m = omega arith
+
+-- what such a member adds
+pub added-same : (t : Tally) (k : ℕ) (met : Bool) (m : Member) (f : Finding) → f ≡ finding k met m → addedBy t (f .over) (f .nd .0) m ≡ added t k met m
+unfolding added findingBy
+added-same t k met m f e = rw e
+
+pub room-for : (t : Tally) (k : ℕ) (met : Bool) (m : Member) (f : Finding) → AddsUp t k m → f ≡ finding k met m → AddsNumbers t (f .nd .0) m
+unfolding findingBy
+room-for t k met m f u e =
+    let v = valid m (u .good) in
+    let q : f .nd .0 ≡ axialRatioD m .0 = ap (λ (x : Finding). x .nd .0) e in
+    record { axial = u .axial; over = u .over; damage = u .damage; ratio = omega (arith, nd-most m, q); shear = v .shear; kind = v .damage }
+
+pub added-over : (t : Tally) (o : Bool) (nd w : ℕ) (m : Member) → o ≡ true → w ≡ weightOf (m .damage) → record { axial = t .axial + nd; over = t .over + m .case .shear; some = true; damage = t .damage + w } ≡ addedBy t o nd m
+added-over t o nd w m e f = rw (e, f, or-true (t .some))
+
+pub added-under : (t : Tally) (o : Bool) (nd w : ℕ) (m : Member) → o ≡ false → w ≡ weightOf (m .damage) → record { axial = t .axial + nd; over = t .over; some = t .some; damage = t .damage + w } ≡ addedBy t o nd m
+added-under t o nd w m e f = let z : t .over + 0 ≡ t .over = omega arith in rw (e, f, or-false (t .some), z)

@@ -1,0 +1,62 @@
+-- The contracts of the functions over rows, for their walks and for their callers' walks. Each is checked against the function's own
+-- clauses where the function is proved.
+use Prim.Native.Nat.{ℕ, _≤_}
+use mathlib.Core.Bool.{true}
+use mathlib.Core.List.{List, [], _∷_}
+use mathlib.Core.Path.{_≡_}
+use lib.Dec.{eqb}
+use lib.ListN.{length}
+use mir.Syntax.{w64}
+use borrow.Fn.Kinds.{rNum}
+use borrow.Kind.Num.{pNum}
+use borrow.Kind.Bool.{pBool}
+use borrow.Kind.ShrSlice.{pShrS}
+use Rattle.reading.specs.First.{pick, any}
+use Rattle.reading.specs.Records.{storeyFault}
+use Rattle.members.specs.Finding.{knowledge}
+use Rattle.storeys.specs.Totals.{total}
+use Rattle.storeys.specs.Storey.{publishedRules, wallShear, memberAt, membersFault, storeyFinding, storeyAnswer, returnedStorey, storeyReturned}
+use Rattle.storeys.specs.Tally.{tallyOf, Rows}
+use Rattle.walk.proofs.Fn.{Plain}
+use Rattle.walk.proofs.Slice.{R, taken, made}
+use Rattle.reading.proofs.Structs.{member, storey}
+use Rattle.storeys.proofs.Structs.{tally as tallied, storeyfinding, storeyjudgment}
+
+abbrev pub repeat-fault : Plain {n = 1} (pShrS (R member) 0 tt ∷ pNum w64 ∷ pNum w64 ∷ []) (rNum w64)
+repeat-fault = record {
+  requires = λ κs a. (a .1 .0 ≤ length (a .0 .now)) ∷ [];
+  ensures = λ κs a z e. (z ≡ pick (any (λ (e : ℕ). eqb (memberAt (a .0 .now) e .number) (a .1 .1 .0)) (a .1 .0)) 5 0) ∷ [];
+}
+
+abbrev pub members-fault : Plain {n = 1} (pShrS (R member) 0 tt ∷ []) (rNum w64)
+members-fault = record {
+  requires = λ κs a. [];
+  ensures = λ κs a z e. (z ≡ membersFault (a .0 .now)) ∷ [];
+}
+
+abbrev pub wall-total : Plain {n = 1} (pShrS (R member) 0 tt ∷ []) (rNum w64)
+wall-total = record {
+  requires = λ κs a. Rows (a .0 .now) ∷ [];
+  ensures = λ κs a z e. (z ≡ total wallShear (a .0 .now)) ∷ [];
+}
+
+abbrev pub tally : Plain {n = 1} (pShrS (R member) 0 tt ∷ pNum w64 ∷ pBool ∷ []) (made tallied)
+tally = record {
+  requires = λ κs a. (Rows (a .0 .now) × (knowledge (a .1 .0) ≡ true)) ∷ [];
+  ensures = λ κs a z e. (z ≡ tallyOf (a .1 .0) (a .1 .1 .0) (a .0 .now)) ∷ [];
+}
+
+abbrev pub found : Plain {n = 1} (pNum w64 ∷ taken storey ∷ pShrS (R member) 0 tt ∷ []) (made storeyfinding)
+found = record {
+  requires = λ κs a. (Rows (a .1 .1 .0 .now) × (knowledge (a .0) ≡ true) × (storeyFault (a .1 .0) ≡ 0)) ∷ [];
+  ensures = λ κs a z e. (z ≡ storeyFinding publishedRules (a .0) (a .1 .0 .shear) (a .1 .1 .0 .now)) ∷ [];
+}
+
+abbrev pub judge-storey : Plain {n = 1} (pNum w64 ∷ taken storey ∷ pShrS (R member) 0 tt ∷ []) (made storeyjudgment)
+judge-storey = record {
+  requires = λ κs a. [];
+  ensures = λ κs a z e.
+      (z .answer ≡ storeyAnswer (a .0) (a .1 .0) (a .1 .1 .0 .now))
+      ∷ (returnedStorey (z .answer) ≡ storeyReturned (a .0) (a .1 .0) (a .1 .1 .0 .now))
+      ∷ [];
+}

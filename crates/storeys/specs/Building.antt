@@ -1,0 +1,133 @@
+-- The judgment of a building (document 01, "Storey and building", "Refusals as returned"): any header with any rows of storeys and members.
+use Prim.Native.Nat.{ℕ, zero, suc, _+_, _<_, max}
+use mathlib.Core.Bool.{Bool, true, false, _||_}
+use mathlib.Core.List.{List, [], _∷_}
+use mathlib.Core.Path.{_≡_}
+use lib.Dec.{ltb, eqb}
+use lib.ListN.{length, getD, take, drop}
+use Rattle.reading.specs.First.{pick, any, inOrder, first}
+use Rattle.reading.specs.Records.{headerFault, storeyFault}
+use Rattle.reading.specs.Survey.{repeated}
+use Rattle.reading.specs.declared.records.Header.{Header}
+use Rattle.reading.specs.declared.records.Storey.{Storey}
+use Rattle.reading.specs.declared.records.Member.{Member}
+use Rattle.members.specs.Finding.{flag, Returned, refused}
+use Rattle.storeys.specs.declared.BuildingFinding.{BuildingFinding}
+use Rattle.storeys.specs.declared.BuildingAnswer.{BuildingAnswer}
+use Rattle.storeys.specs.declared.BuildingAnswer.the-variants.{Judged, Refused}
+use Rattle.storeys.specs.Totals.{total}
+use Rattle.storeys.specs.Storey.{Rules, publishedRules, meetsWallShare, overShear, storeyRisky, countFault, shearFault, membersFault}
+
+-- what stands past the rows
+abbrev pub noStorey : Storey
+noStorey = record { number = 0; shear = 0; count = 0 }
+
+-- storey i, counted from 0
+abbrev pub storeyAt : List Storey → ℕ → Storey
+storeyAt ss i = getD ss i noStorey
+
+-- how many members the storeys before storey i have
+unfoldable pub membersBefore : List Storey → ℕ → ℕ
+membersBefore ss zero = 0
+membersBefore ss (suc i) = membersBefore ss i + storeyAt ss i .count
+
+-- the members of storey i: after those of the storeys before it, as many as it counts
+unfoldable pub membersOf : List Storey → List Member → ℕ → List Member
+membersOf ss ms i = take (storeyAt ss i .count) (drop (membersBefore ss i) ms)
+
+-- storey i is Risky
+unfoldable pub riskyAt : Rules → ℕ → List Storey → List Member → ℕ → Bool
+riskyAt rules k ss ms i = storeyRisky rules k (storeyAt ss i .shear) (membersOf ss ms i)
+
+-- 1: "a count or total of counts that isn't the rows given"
+unfoldable pub countsFault : Header → List Storey → List Member → ℕ
+countsFault h ss ms =
+    inOrder (countFault (h .count) (length ss) ∷ countFault (total (λ s. s .count) ss) (length ms) ∷ [])
+
+-- storey i: its 3, its 5 (its number is one of those before it), then its members' 3, 4 and 5
+unfoldable pub storeyRowsFault : List Storey → List Member → ℕ → ℕ
+storeyRowsFault ss ms i =
+    inOrder (storeyFault (storeyAt ss i) ∷ repeated (λ e. storeyAt ss e .number) i ∷ membersFault (membersOf ss ms i) ∷ [])
+
+-- storey i: 10
+unfoldable pub shearFaultAt : Rules → ℕ → List Storey → List Member → ℕ → ℕ
+shearFaultAt rules k ss ms i =
+    let part = membersOf ss ms i in
+    shearFault (overShear rules k (meetsWallShare (storeyAt ss i .shear) part) part)
+
+-- the first refusal of the call on a building: "1 over all, then records in survey order: 3, 4, 5, 7; then 10"
+unfoldable pub buildingFault : Rules → Header → List Storey → List Member → ℕ
+buildingFault rules h ss ms =
+    inOrder
+    (countsFault h ss ms
+    ∷ headerFault h
+    ∷ first 0 (λ n. n) (storeyRowsFault ss ms) (length ss)
+    ∷ first 0 (λ n. n) (shearFaultAt rules (h .knowledge) ss ms) (length ss)
+    ∷ [])
+
+-- "the larger tilt exceeds 25,000"
+abbrev pub tiltAllowed : ℕ
+tiltAllowed = 25_000
+
+unfoldable pub tilted : Header → Bool
+tilted h = ltb tiltAllowed (max (h .tilt1) (h .tilt2))
+
+-- some storey is Risky
+unfoldable pub someRisky : Rules → Header → List Storey → List Member → Bool
+someRisky rules h ss ms = any (riskyAt rules (h .knowledge) ss ms) (length ss)
+
+-- "A building is Risky when a storey is, or the larger tilt exceeds 25,000"
+unfoldable pub buildingRisky : Rules → Header → List Storey → List Member → Bool
+buildingRisky rules h ss ms = someRisky rules h ss ms || tilted h
+
+-- the finding, with the place that it names
+unfoldable pub buildingFinding : Rules → Header → List Storey → List Member → ℕ → BuildingFinding
+buildingFinding rules h ss ms place = record { tilted = tilted h; risky = buildingRisky rules h ss ms; place = place }
+
+unfoldable pub buildingAnswerBy : Rules → Header → List Storey → List Member → ℕ → BuildingAnswer
+buildingAnswerBy rules h ss ms place =
+    pick (eqb (buildingFault rules h ss ms) 0)
+    (Judged (buildingFinding rules h ss ms place))
+    (Refused (buildingFault rules h ss ms))
+
+-- the answer on a building, by the published rules
+abbrev pub buildingAnswer : Header → List Storey → List Member → ℕ → BuildingAnswer
+buildingAnswer = buildingAnswerBy publishedRules
+
+-- "names a Risky storey's place, counted from 1. Which one is free where several are; 0 where none is"
+pub data PlaceOk (rules : Rules) (h : Header) (ss : List Storey) (ms : List Member) : ℕ → Type 0 where
+  nowhere : someRisky rules h ss ms ≡ false → PlaceOk rules h ss ms 0
+  named : (i : ℕ) → i < length ss → riskyAt rules (h .knowledge) ss ms i ≡ true → PlaceOk rules h ss ms (i + 1)
+
+-- the place that an answer names; a refusal names none
+abbrev pub placeIn : BuildingAnswer → ℕ
+placeIn (Judged f) = f .place
+placeIn (Refused n) = 0
+
+abbrev pub PlaceInOk : Rules → Header → List Storey → List Member → BuildingAnswer → Type 0
+PlaceInOk rules h ss ms (Judged f) = PlaceOk rules h ss ms (f .place)
+PlaceInOk rules h ss ms (Refused n) = Unit
+
+-- what the call on a building answers: all but the place is equated
+pub record Answers (rules : Rules) (h : Header) (ss : List Storey) (ms : List Member) (r : BuildingAnswer) : Type 0 where
+  pub same : r ≡ buildingAnswerBy rules h ss ms (placeIn r)
+  pub place : PlaceInOk rules h ss ms r
+
+-- the values of a printed building, and the place
+abbrev pub buildingValues : BuildingFinding → List ℕ
+buildingValues f = flag (f .tilted) ∷ flag (f .risky) ∷ f .place ∷ []
+
+abbrev pub buildingFound : BuildingFinding → Returned
+buildingFound f = record { refusal = 0; line = 0; values = buildingValues f }
+
+-- what each case of the answer says
+abbrev pub returnedBuilding : BuildingAnswer → Returned
+returnedBuilding (Judged f) = buildingFound f
+returnedBuilding (Refused n) = refused n
+
+-- what the paper returns, with the place that the answer names
+unfoldable pub buildingReturned : Header → List Storey → List Member → ℕ → Returned
+buildingReturned h ss ms place =
+    pick (eqb (buildingFault publishedRules h ss ms) 0)
+    (buildingFound (buildingFinding publishedRules h ss ms place))
+    (refused (buildingFault publishedRules h ss ms))

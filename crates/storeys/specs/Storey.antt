@@ -1,0 +1,187 @@
+-- The judgment of a storey (document 01, "Storey and building", "Refusals as returned"): any storey record with any rows of members.
+use Prim.Native.Nat.{ℕ, _+_, _-_, _*_}
+use mathlib.Core.Bool.{Bool, _&&_, _||_}
+use mathlib.Core.List.{List, [], _∷_}
+use lib.Dec.{leb, ltb, eqb}
+use lib.ListN.{length, getD}
+use Rattle.reading.specs.First.{pick, inOrder, first}
+use Rattle.reading.specs.Records.{storeyFault, memberFault}
+use Rattle.reading.specs.Survey.{repeated}
+use Rattle.reading.specs.declared.records.Storey.{Storey}
+use Rattle.reading.specs.declared.records.Member.{Member}
+use Rattle.members.specs.Units.{shareFrom, shareTo}
+use Rattle.members.specs.Class.{isWall}
+use Rattle.members.specs.Tables.{two, published, orderedSet}
+use Rattle.members.specs.Finding.{axialRatioD, findingBy, knowledge, flag, Returned, refused}
+use Rattle.members.specs.declared.tables.Two.{Two}
+use Rattle.members.specs.declared.tables.LimitSet.{LimitSet}
+use Rattle.storeys.specs.declared.StoreyFinding.{StoreyFinding}
+use Rattle.storeys.specs.declared.StoreyAnswer.{StoreyAnswer}
+use Rattle.storeys.specs.declared.StoreyAnswer.the-variants.{Judged, Refused}
+use Rattle.storeys.specs.Totals.{total, some}
+
+-- what a survey is judged by: the limits of the members, and the axial ratios per member between which the allowed share falls
+pub record Rules : Type 0 where
+  pub limits : LimitSet
+  pub ends : Two
+
+-- the rules that document 01 publishes
+abbrev pub publishedRules : Rules
+publishedRules = record { limits = published; ends = two shareFrom shareTo }
+
+-- rules that keep the order of the load: limits in order, and share ends that rise
+abbrev pub orderly : Rules → Bool
+orderly rules = orderedSet (rules .limits) && ltb (rules .ends .r1) (rules .ends .r2)
+
+-- the V of a wall, and of a column nothing
+abbrev pub wallShear : Member → ℕ
+wallShear m = pick (isWall m) (m .case .shear) 0
+
+-- "a storey whose walls' V total ≥ 0.40 × storey shear": all walls count, over or not
+unfoldable pub meetsWallShare : ℕ → List Member → Bool
+meetsWallShare w ms = leb (2 * w) (5 * total wallShear ms)
+
+-- "Σ the total of n_D"
+unfoldable pub axialTotal : List Member → ℕ
+axialTotal ms = total (λ m. axialRatioD m .0) ms
+
+-- a member is over, judged with k and the 0.40 condition of its storey
+abbrev pub over : Rules → ℕ → Bool → Member → Bool
+over rules k met m = findingBy (rules .limits) k met m .over
+
+-- the V of a member that is over, and of another nothing
+abbrev pub shearIfOver : Rules → ℕ → Bool → Member → ℕ
+shearIfOver rules k met m = pick (over rules k met m) (m .case .shear) 0
+
+-- "P the total of V over members that are over"
+unfoldable pub overShear : Rules → ℕ → Bool → List Member → ℕ
+overShear rules k met ms = total (shearIfOver rules k met) ms
+
+-- "some member is over"
+unfoldable pub someOver : Rules → ℕ → Bool → List Member → Bool
+someOver rules k met ms = some (over rules k met) ms
+
+-- "h being the numbers of members with each damage kind"
+unfoldable pub damaged : ℕ → List Member → ℕ
+damaged kind ms = total (λ m. flag (eqb (m .damage) kind)) ms
+
+-- "The allowed share is 0.35 while Σ ≤ 1,000 × c, 0 from Σ = 6,500 × c, and 7 × (6,500 × c − Σ) / (110,000 × c) between": P / W exceeds it,
+-- where 110,000 is 20 × (6,500 − 1,000)
+unfoldable pub exceedsShare : Two → ℕ → ℕ → ℕ → ℕ → Bool
+exceedsShare ends σ c p w =
+    pick (leb σ (ends .r1 * c))
+    (ltb (7 * w) (20 * p))
+    (pick (leb (ends .r2 * c) σ)
+    (ltb 0 p)
+    (ltb (7 * w * (ends .r2 * c - σ)) (20 * (ends .r2 - ends .r1) * c * p)))
+
+-- "20 × h1 + 28 × h2 + 35 × h3 + 140 × h4 ≥ 7 × c"
+unfoldable pub riskyByDamage : List Member → Bool
+riskyByDamage ms = leb (7 * length ms) (20 * damaged 1 ms + 28 * damaged 2 ms + 35 * damaged 3 ms + 140 * damaged 4 ms)
+
+-- "A storey is Risky when P / W exceeds it; or Σ > 6,500 × c and some member is over; or" by its damage
+unfoldable pub storeyRisky : Rules → ℕ → ℕ → List Member → Bool
+storeyRisky rules k w ms =
+    let met = meetsWallShare w ms in
+    exceedsShare (rules .ends) (axialTotal ms) (length ms) (overShear rules k met ms) w
+    || ((ltb (rules .ends .r2 * length ms) (axialTotal ms) && someOver rules k met ms) || riskyByDamage ms)
+
+unfoldable pub storeyFinding : Rules → ℕ → ℕ → List Member → StoreyFinding
+storeyFinding rules k w ms =
+    record {
+      axial = axialTotal ms;
+      members = length ms;
+      over = overShear rules k (meetsWallShare w ms) ms;
+      shear = w;
+      risky = storeyRisky rules k w ms;
+      walls = meetsWallShare w ms;
+    }
+
+-- 1, a count that isn't the rows given
+abbrev pub countFault : ℕ → ℕ → ℕ
+countFault count rows = pick (eqb count rows) 0 1
+
+-- 3, k not one of the two levels
+abbrev pub knowledgeFault : ℕ → ℕ
+knowledgeFault k = pick (knowledge k) 0 3
+
+-- 10, P above 9,999,999,999
+abbrev pub shearFault : ℕ → ℕ
+shearFault p = pick (leb p 9_999_999_999) 0 10
+
+-- what stands past the rows
+unfoldable pub noMember : Member
+noMember =
+    record {
+      number = 0;
+      long = 0;
+      short = 0;
+      area = 0;
+      fcm = 0;
+      fctm = 0;
+      fyw = 0;
+      depth = 0;
+      height = 0;
+      spacing = 0;
+      core = 0;
+      hoops = 0;
+      hooks = 0;
+      zone = 0;
+      strengthened = 0;
+      factor = 0;
+      damage = 0;
+      nd = 0;
+      case = record { nk = 0; me = 0; mp = 0; ve = 0; vr = 0; shear = 0; rotation = 0; drift = 0 };
+    }
+
+-- row j of some members, counted from 0
+abbrev pub memberAt : List Member → ℕ → Member
+memberAt ms j = getD ms j noMember
+
+-- a member's 3 and 4, then its 5: its number is one of those before it in the storey
+unfoldable pub rowFault : List Member → ℕ → ℕ
+rowFault ms j = inOrder (memberFault (memberAt ms j) ∷ repeated (λ e. memberAt ms e .number) j ∷ [])
+
+-- the first refusal of the members of a storey, in their order
+unfoldable pub membersFault : List Member → ℕ
+membersFault ms = first 0 (λ n. n) (rowFault ms) (length ms)
+
+-- the first refusal of the call on a storey: 1, k's 3, the storey's 3, its members' 3, 4 and 5, and 10
+unfoldable pub storeyCallFault : Rules → ℕ → Storey → List Member → ℕ
+storeyCallFault rules k s ms =
+    inOrder
+    (countFault (s .count) (length ms)
+    ∷ knowledgeFault k
+    ∷ storeyFault s
+    ∷ membersFault ms
+    ∷ shearFault (overShear rules k (meetsWallShare (s .shear) ms) ms)
+    ∷ [])
+
+unfoldable pub storeyAnswerBy : Rules → ℕ → Storey → List Member → StoreyAnswer
+storeyAnswerBy rules k s ms =
+    pick (eqb (storeyCallFault rules k s ms) 0)
+    (Judged (storeyFinding rules k (s .shear) ms))
+    (Refused (storeyCallFault rules k s ms))
+
+-- the answer on a storey, by the published rules
+abbrev pub storeyAnswer : ℕ → Storey → List Member → StoreyAnswer
+storeyAnswer = storeyAnswerBy publishedRules
+
+-- the values of a printed storey after its number, and the 0.40 condition
+abbrev pub storeyValues : StoreyFinding → List ℕ
+storeyValues f = f .axial ∷ f .members ∷ f .over ∷ f .shear ∷ flag (f .risky) ∷ flag (f .walls) ∷ []
+
+abbrev pub storeyFound : StoreyFinding → Returned
+storeyFound f = record { refusal = 0; line = 0; values = storeyValues f }
+
+-- what each case of the answer says
+abbrev pub returnedStorey : StoreyAnswer → Returned
+returnedStorey (Judged f) = storeyFound f
+returnedStorey (Refused n) = refused n
+
+-- what the paper returns
+unfoldable pub storeyReturned : ℕ → Storey → List Member → Returned
+storeyReturned k s ms =
+    pick (eqb (storeyCallFault publishedRules k s ms) 0)
+    (storeyFound (storeyFinding publishedRules k (s .shear) ms))
+    (refused (storeyCallFault publishedRules k s ms))

@@ -1,0 +1,1 @@
+// The call on a building.

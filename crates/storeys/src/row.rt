@@ -1,0 +1,243 @@
+// One record, by value: what the loops over rows do with each.
+ghost use mathlib.Core.Path.{_≡_};
+ghost use mathlib.Core.Bool.{true, _||_};
+ghost use mathlib.Core.List.{[], _∷_};
+ghost use Prim.Native.Nat.{_+_, _-_, _*_, _<_, _≤_};
+ghost use lib.Dec.{leb, ltb, eqb};
+ghost use Rattle.reading.specs.First.{pick, inOrder};
+ghost use Rattle.reading.specs.Records.{storeyFault, memberFault};
+ghost use Rattle.members.specs.Finding.{knowledge};
+ghost use Rattle.storeys.specs.Storey.{publishedRules, wallShear, countFault, knowledgeFault, shearFault, exceedsShare};
+ghost use Rattle.storeys.specs.Tally.{weightOf, noTally, added, addedBy, AddsUp, AddsNumbers, headFault, foundBy, judgedBy, riskyBy, Small};
+use crate::StoreyAnswer;
+use crate::StoreyFinding;
+use crate::StoreyJudgment;
+use members::class::is_wall;
+use members::finding::MemberAnswer;
+use members::finding::judge_member;
+use reading::ranges::member_fault;
+use reading::ranges::storey_fault;
+use reading::records::Member;
+use reading::records::Storey;
+
+// The totals over some members of a storey.
+pub(crate) struct Tally {
+    // Σ
+    pub axial: u64,
+    // P
+    pub over: u64,
+    // some member is over
+    pub some: bool,
+    // 20, 28, 35 or 140 for each damaged member
+    pub damage: u64,
+}
+
+pub(crate) fn number_of(m: Member) -> u64
+    ensures { λ r. ⌜ r ≡ m .number ⌝ }
+{
+    m.number
+}
+
+pub(crate) fn storey_number(s: Storey) -> u64
+    ensures { λ r. ⌜ r ≡ s .number ⌝ }
+{
+    s.number
+}
+
+pub(crate) fn storey_count(s: Storey) -> usize
+    ensures { λ r. ⌜ r ≡ s .count ⌝ }
+{
+    s.count as usize
+}
+
+// A member's 3 and 4, then the 5 that is handed in.
+pub(crate) fn row_fault(m: Member, repeated: u64) -> u64
+    ensures { λ r. ⌜ r ≡ inOrder (memberFault m ∷ repeated ∷ []) ⌝ }
+{
+    let f = member_fault(m);
+    if f != 0 {
+        return f;
+    }
+    repeated
+}
+
+// A storey's 3, then the 5 that is handed in.
+pub(crate) fn storey_row_fault(s: Storey, repeated: u64) -> u64
+    ensures { λ r. ⌜ r ≡ inOrder (storeyFault s ∷ repeated ∷ []) ⌝ }
+{
+    let f = storey_fault(s);
+    if f != 0 {
+        return f;
+    }
+    repeated
+}
+
+// The walls' V so far, with one member more.
+pub(crate) fn add_wall(t: u64, m: Member) -> u64
+    requires { ⌜ (t ≤ 10_000_000_000) × (m .case .shear ≤ 9_999_999) ⌝ }
+    ensures { λ r. ⌜ r ≡ t + wallShear m ⌝ }
+{
+    if is_wall(m) {
+        return t + m.case.shear;
+    }
+    t
+}
+
+pub(crate) fn no_tally() -> Tally
+    ensures { λ r. ⌜ r ≡ noTally ⌝ }
+{
+    Tally {
+        axial: 0,
+        over: 0,
+        some: false,
+        damage: 0,
+    }
+}
+
+fn weight(kind: u64) -> u64
+    requires { ⌜ kind ≤ 4 ⌝ }
+    ensures { λ r. ⌜ (r ≡ weightOf kind) × (r ≤ 140) ⌝ }
+{
+    if kind == 0 {
+        return 0;
+    }
+    if kind == 1 {
+        return 20;
+    }
+    if kind == 2 {
+        return 28;
+    }
+    if kind == 3 {
+        return 35;
+    }
+    140
+}
+
+// The totals with one good member more.
+pub(crate) fn add_row(t: Tally, k: u64, met: bool, m: Member) -> Tally
+    requires { ⌜ AddsUp t k m ⌝ }
+    ensures { λ r. ⌜ r ≡ added t k met m ⌝ }
+{
+    match judge_member(k, met, m) {
+        MemberAnswer::Judged(f) => add_finding(t, f.over, f.nd.0, m),
+        MemberAnswer::Refused(_) => t,
+    }
+}
+
+// The totals with a member's finding: whether it is over, and its n_D.
+fn add_finding(t: Tally, over: bool, nd: u64, m: Member) -> Tally
+    requires { ⌜ AddsNumbers t nd m ⌝ }
+    ensures { λ r. ⌜ r ≡ addedBy t over nd m ⌝ }
+{
+    let w = weight(m.damage);
+    if over {
+        return Tally {
+            axial: t.axial + nd,
+            over: t.over + m.case.shear,
+            some: true,
+            damage: t.damage + w,
+        };
+    }
+    Tally {
+        axial: t.axial + nd,
+        over: t.over,
+        some: t.some,
+        damage: t.damage + w,
+    }
+}
+
+fn knows(k: u64) -> bool
+    ensures { λ r. ⌜ r ≡ knowledge k ⌝ }
+{
+    if k == 90 {
+        return true;
+    }
+    k == 100
+}
+
+// The refusals of the call on a storey before its members': 1, k's 3, the storey's 3.
+pub(crate) fn head_fault(k: u64, s: Storey, rows: usize) -> u64
+    ensures { λ r. ⌜ r ≡ headFault k s rows ⌝ }
+{
+    if s.count != rows as u64 {
+        return 1;
+    }
+    if !knows(k) {
+        return 3;
+    }
+    storey_fault(s)
+}
+
+// The walls carry at least 0.40 of the storey shear.
+pub(crate) fn meets(s: Storey, walls: u64) -> bool
+    requires { ⌜ (s .shear ≤ 9_999_999) × (walls ≤ 10_000_000_000) ⌝ }
+    ensures { λ r. ⌜ r ≡ leb (2 * s .shear) (5 * walls) ⌝ }
+{
+    2 * s.shear <= 5 * walls
+}
+
+// P / W exceeds the allowed share, of c members.
+fn exceeds_share(axial: u64, c: u64, over: u64, shear: u64) -> bool
+    requires { ⌜ (axial ≤ 1_000_000_000) × (c ≤ 200) × (over ≤ 10_000_000_000) × (shear ≤ 9_999_999) ⌝ }
+    ensures { λ r. ⌜ r ≡ exceedsShare (publishedRules .ends) axial c over shear ⌝ }
+{
+    if axial <= 1_000 * c {
+        return 7 * shear < 20 * over;
+    }
+    if 6_500 * c <= axial {
+        return 0 < over;
+    }
+    7 * shear * (6_500 * c - axial) < 110_000 * c * over
+}
+
+// The storey's finding, from its totals.
+pub(crate) fn finding_of(s: Storey, rows: usize, met: bool, t: Tally) -> StoreyFinding
+    requires { ⌜ Small s rows t ⌝ }
+    ensures { λ r. ⌜ r ≡ foundBy s rows met t ⌝ }
+{
+    let c = rows as u64;
+    StoreyFinding {
+        axial: t.axial,
+        members: c,
+        over: t.over,
+        shear: s.shear,
+        risky: is_risky(s.shear, c, t),
+        walls: met,
+    }
+}
+
+fn is_risky(shear: u64, c: u64, t: Tally) -> bool
+    requires { ⌜ (t .axial ≤ 1_000_000_000) × (c ≤ 200) × (t .over ≤ 10_000_000_000) × (shear ≤ 9_999_999) ⌝ }
+    ensures { λ r. ⌜ r ≡ riskyBy shear c t ⌝ }
+{
+    if exceeds_share(t.axial, c, t.over, shear) {
+        return true;
+    }
+    if 7 * c <= t.damage {
+        return true;
+    }
+    if t.axial <= 6_500 * c {
+        return false;
+    }
+    t.some
+}
+
+pub(crate) fn refused_storey(number: u64) -> StoreyJudgment
+    ensures { λ r. ⌜ r .answer ≡ StoreyAnswer.Refused number ⌝ }
+{
+    StoreyJudgment {
+        answer: StoreyAnswer::Refused(number),
+    }
+}
+
+// The finding, or 10.
+pub(crate) fn judged_storey(f: StoreyFinding) -> StoreyJudgment
+    ensures { λ r. ⌜ r .answer ≡ judgedBy f ⌝ }
+{
+    if 9_999_999_999 < f.over {
+        return refused_storey(10);
+    }
+    StoreyJudgment {
+        answer: StoreyAnswer::Judged(f),
+    }
+}

@@ -1,0 +1,113 @@
+// The call on a storey, over a lent row of members. Whole records are moved here; whatever looks into one is in `row`.
+ghost use mathlib.Core.Path.{_≡_};
+ghost use mathlib.Core.Bool.{true};
+ghost use Prim.Native.Nat.{ℕ, _≤_};
+ghost use lib.Dec.{eqb};
+ghost use lib.ListN.{length};
+ghost use Rattle.reading.specs.First.{pick, any};
+ghost use Rattle.reading.specs.Records.{storeyFault};
+ghost use Rattle.members.specs.Finding.{knowledge};
+ghost use Rattle.storeys.specs.Totals.{total};
+ghost use Rattle.storeys.specs.Storey.{publishedRules, wallShear, memberAt, membersFault, storeyFinding, storeyAnswer, returnedStorey, storeyReturned};
+ghost use Rattle.storeys.specs.Tally.{tallyOf, Rows};
+use crate::StoreyFinding;
+use crate::StoreyJudgment;
+use crate::row::Tally;
+use crate::row::add_row;
+use crate::row::add_wall;
+use crate::row::finding_of;
+use crate::row::head_fault;
+use crate::row::judged_storey;
+use crate::row::meets;
+use crate::row::no_tally;
+use crate::row::number_of;
+use crate::row::refused_storey;
+use crate::row::row_fault;
+use reading::records::Member;
+use reading::records::Storey;
+
+// 5 where one of the first n members has the number v.
+fn repeat_fault(rows: &[Member], n: usize, v: u64) -> u64
+    requires { ⌜ n ≤ length (now rows) ⌝ }
+    ensures { λ r. ⌜ r ≡ pick (any (λ (e : ℕ). eqb (memberAt (now (rows .entry)) e .number) v) n) 5 0 ⌝ }
+{
+    let mut e = 0;
+    while e < n {
+        if number_of(rows[e]) == v {
+            return 5;
+        }
+        e = e + 1;
+    }
+    0
+}
+
+// The first refusal of the members, in their order.
+pub(crate) fn members_fault(rows: &[Member]) -> u64
+    ensures { λ r. ⌜ r ≡ membersFault (now (rows .entry)) ⌝ }
+{
+    let mut j = 0;
+    while j < rows.len() {
+        let m = rows[j];
+        let repeated = repeat_fault(rows, j, number_of(m));
+        let fault = row_fault(m, repeated);
+        if fault != 0 {
+            return fault;
+        }
+        j = j + 1;
+    }
+    0
+}
+
+// The walls' V.
+fn wall_total(rows: &[Member]) -> u64
+    requires { ⌜ Rows (now rows) ⌝ }
+    ensures { λ r. ⌜ r ≡ total wallShear (now (rows .entry)) ⌝ }
+{
+    let mut t: u64 = 0;
+    let mut j = 0;
+    while j < rows.len() {
+        t = add_wall(t, rows[j]);
+        j = j + 1;
+    }
+    t
+}
+
+// The totals of the members, judged with k and the 0.40 condition.
+fn tally(rows: &[Member], k: u64, met: bool) -> Tally
+    requires { ⌜ Rows (now rows) × (knowledge k ≡ true) ⌝ }
+    ensures { λ r. ⌜ r ≡ tallyOf k met (now (rows .entry)) ⌝ }
+{
+    let mut t = no_tally();
+    let mut j = 0;
+    while j < rows.len() {
+        t = add_row(t, k, met, rows[j]);
+        j = j + 1;
+    }
+    t
+}
+
+// A good storey's finding.
+pub(crate) fn found(k: u64, s: Storey, rows: &[Member]) -> StoreyFinding
+    requires { ⌜ Rows (now rows) × (knowledge k ≡ true) × (storeyFault s ≡ 0) ⌝ }
+    ensures { λ r. ⌜ r ≡ storeyFinding publishedRules k (s .shear) (now (rows .entry)) ⌝ }
+{
+    let met = meets(s, wall_total(rows));
+    let t = tally(rows, k, met);
+    finding_of(s, rows.len(), met, t)
+}
+
+// The call on a storey: k is its survey's knowledge level.
+pub fn judge_storey(k: u64, s: Storey, rows: &[Member]) -> StoreyJudgment
+    ensures { λ r. ⌜ r .answer ≡ storeyAnswer k s (now (rows .entry)) ⌝ }
+    ensures { λ r. ⌜ returnedStorey (r .answer) ≡ storeyReturned k s (now (rows .entry)) ⌝ }
+{
+    let first = head_fault(k, s, rows.len());
+    if first != 0 {
+        return refused_storey(first);
+    }
+    let fault = members_fault(rows);
+    if fault != 0 {
+        return refused_storey(fault);
+    }
+    judged_storey(found(k, s, rows))
+}
