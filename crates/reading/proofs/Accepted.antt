@@ -8,7 +8,7 @@ use mathlib.Core.Path.{_≡_, refl, sym, _∙_}
 use lib.Dec.{ltb, eqb, eqb·suc-zero}
 use lib.ListN.{length, take, drop, getD, length-append, length-drop, take-append-drop}
 use lib.Seq.{drop-cons, set-at, take-at, drop-drop, drop-append-add, length-take-le}
-use borrow.Author.Tests.{eqb-true, ltb-true}
+use borrow.Author.Tests.{eqb-true, ltb-true, ltb-false}
 use Rattle.reading.specs.First.{pick, inOrder}
 use Rattle.reading.specs.Records.{storeyFault, memberFault}
 use Rattle.reading.specs.Lines.{shaped, fieldsFault, headerAt}
@@ -17,7 +17,8 @@ use Rattle.reading.specs.Checks.{Fits}
 use Rattle.reading.specs.Answer.{told, storeysTold, storeysAfter, membersAfter}
 use Rattle.reading.specs.declared.records.Storey.{Storey}
 use Rattle.reading.specs.declared.records.Member.{Member}
-use Rattle.reading.specs.declared.records.Tag.the-variants.{S, M}
+use Rattle.reading.specs.declared.records.Tag.{Tag}
+use Rattle.reading.specs.declared.records.Tag.the-variants.{B, S, M}
 use Rattle.reading.specs.declared.survey.Fault.{Fault}
 use Rattle.reading.proofs.Firsts.{pick-clear, pick-both, step-clear, first-clear}
 use Rattle.reading.proofs.Held.{shaped-fits}
@@ -189,3 +190,48 @@ module _ (s : List ℕ) (srows mrows n : ℕ) where
 
   pub members-are : (d : Member) (rows : List Member) → n ≡ storeysTold (told (survey s srows mrows)) → mrows ≡ length rows → filledMembers s n rows ≡ membersAfter (survey s srows mrows) rows
   members-are d rows = members-by (eqb (surveyFault s srows mrows .number) 0) d rows refl
+
+-- ---- the lines of an accepted file: each has its shape, and no field of it is refused
+pub record Clean (tag : Tag) (s : List ℕ) (at : ℕ) : Type 0 where
+  pub form : shaped tag (drop at s) ≡ true
+  pub written : fieldsFault tag s at ≡ 0
+
+line-clean : (tag : Tag) (s : List ℕ) (at b d e : ℕ) → inOrder (shape tag s at ∷ b ∷ fieldsFault tag s at ∷ d ∷ e ∷ []) ≡ 0 → Clean tag s at
+line-clean tag s at b d e z =
+    let a = five-clear (shape tag s at) b (fieldsFault tag s at) d e z in
+    record { form = test-clear (shaped tag (drop at s)) 1 (omega arith) (a .0); written = a .2 }
+
+no-trail : (t : Bool) (l : ℕ) → pick t (record { number = 6; line = l }) noFault .number ≡ 0 → t ≡ false
+no-trail true l e = let z : ⊥ = omega (arith, e) in absurd z
+no-trail false l e = refl
+
+module _ (s : List ℕ) (srows mrows : ℕ) (z : surveyFault s srows mrows .number ≡ 0) where
+  pub header-clean : Clean B s 0
+  unfolding headerLine
+  header-clean =
+      let e = header-clear s srows mrows z in
+      let l = pick-both (shape B s 0) _ e in
+      record { form = test-clear (shaped B (drop 0 s)) 1 (omega arith) (pick-clear (shape B s 0) _ e); written = pick-clear (fieldsFault B s 0) _ l }
+
+  module _ (i : ℕ) (h : i < headerAt s 0 .count) where
+    pub storey-clean : Clean S s (place i (membersBefore s i))
+    unfolding storeyLine Clear
+    storey-clean =
+        let e = line-clear (lineNumber i (membersBefore s i)) (storeyLine s srows i) (clear-both s srows mrows i (all-clear s srows mrows z i h) .0) in
+        line-clean S s (place i (membersBefore s i)) (unheld i srows) (storeyFault (storey s i)) (repeated (λ k. storey s k .number) i) e
+
+    pub member-clean : (j : ℕ) → j < storey s i .count → Clean M s (memberPlace s i j)
+    unfolding memberLine membersFault Clear
+    member-clean j l =
+        let e = first-clear noFault (λ f. f .number) _ (storey s i .count) j (clear-both s srows mrows i (all-clear s srows mrows z i h) .1) l in
+        line-clean M s (memberPlace s i j) (unheld (membersBefore s i + j) mrows) (memberFault (member s i j)) (repeated (λ k. member s i k .number) j)
+        (line-clear (lineNumber (i + 1) (membersBefore s i + j)) (memberLine s mrows i j) e)
+
+  pub nothing-after : length s ≤ place (headerAt s 0 .count) (membersBefore s (headerAt s 0 .count))
+  unfolding surveyFault
+  nothing-after =
+      let n = headerAt s 0 .count in
+      let a = step-clear (λ (f : Fault). f .number) (eqb (at-line 1 (headerLine s) .number) 0) _ (at-line 1 (headerLine s)) refl z .0 in
+      let f = firstFault (storeysFault s srows mrows) n in
+      let b = step-clear (λ (f : Fault). f .number) (eqb (f .number) 0) (trailing s n) f refl a .0 in
+      ltb-false (place n (membersBefore s n)) (length s) (no-trail _ (lineNumber n (membersBefore s n)) b)

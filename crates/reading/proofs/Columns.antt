@@ -110,3 +110,9 @@ pub blank-small : (n j : ℕ) → column 45 n (suc j) ≡ 32 → n < 10 ^ j
 unfolding column
 blank-small n zero e = absurd (no-blank (ltb n 10) (n / 10 % 10) e)
 blank-small n (suc j) e = blank-more (ltb n 10) n j _ _ (ltb-true n 10) (blank-small (n / 10) j) e
+
+-- a blank in column j has at most j digits to its right
+pub blank-digits : (n j : ℕ) → column 32 n j ≡ 32 → n < 10 ^ j
+unfolding column
+blank-digits n zero e = let z : ⊥ = omega (arith, e) in absurd z
+blank-digits n (suc j) e = blank-more (ltb n 10) n j _ _ (ltb-true n 10) (blank-digits (n / 10) j) e

@@ -71,3 +71,9 @@ first-clear nil number f zero j e h = absurd (not-suc-le-zero h)
 first-clear nil number f (suc n) j e h =
     let c = step-clear number (eqb (number (first nil number f n)) 0) (f n) (first nil number f n) refl e in
     ⊎-elim (λ (q : j ≡ n). rw q (c .0)) (λ (l : j < n). first-clear nil number f n j (c .1) l) (eq-or-lt-of-le (le-of-suc-le-suc h))
+
+-- and where none of them is one, the first is none
+pub first-zero : {A : Type 0} (nil : A) (number : A → ℕ) (f : ℕ → A) (n : ℕ) → number nil ≡ 0 → ((j : ℕ) → j < n → number (f j) ≡ 0) → number (first nil number f n) ≡ 0
+unfolding first
+first-zero nil number f zero h g = h
+first-zero nil number f (suc n) h g = rw (eq-eqb _ _ (first-zero nil number f n h (λ j l. g j (omega arith)))) (g n (omega arith))

@@ -15,3 +15,7 @@ pub mod Says
 pub mod Structs
 pub mod Filling
 pub mod Accepted
+pub mod Spelt
+pub mod Resent
+pub mod Typed
+pub mod Reread

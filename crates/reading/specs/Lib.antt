@@ -7,3 +7,4 @@ pub mod Valid
 pub mod Survey
 pub mod Checks
 pub mod Answer
+pub mod Writing
