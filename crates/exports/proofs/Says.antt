@@ -1,19 +1,23 @@
 -- The contracts of the functions over rows, for their walks. Each is checked against the function's own clauses where the function is proved.
 use mathlib.Core.List.{[], _∷_}
 use mathlib.Core.Path.{_≡_}
-use lib.ListN.{length}
+use lib.ListN.{length, getD}
+use Prim.Native.Nat.{ℕ}
 use mir.Syntax.{w8, w64}
 use denote.RattleType.{RattleType}
 use borrow.Fn.Kinds.{rUnit}
 use borrow.Kind.ShrSlice.{pShrS}
 use borrow.Kind.MutSlice.{pMutS}
+use borrow.Kind.Num.{pNum}
 use borrow.Table.Referent.{rtF, fInt}
 use Rattle.reading.specs.Survey.{survey}
 use Rattle.reading.specs.Answer.{told, storeysAfter, membersAfter}
 use Rattle.walk.proofs.Fn.{Plain}
 use Rattle.walk.proofs.Slice.{R}
 use Rattle.reading.proofs.Structs.{member, storey}
-use Rattle.exports.specs.Words.{words as wordsOf, put}
+use Rattle.reading.specs.Lines.{storeyBy}
+use Rattle.storeys.specs.Storey.{storeyReturned}
+use Rattle.exports.specs.Words.{words as wordsOf, put, ten}
 
 abbrev pub bytes : RattleType
 bytes = rtF (fInt w8)
@@ -29,4 +33,11 @@ llunareth-read = record {
       ∷ (e .1 .0 .now ≡ storeysAfter (survey (a .0 .now) (length (a .1 .0 .now)) (length (a .1 .1 .0 .now))) (a .1 .0 .now))
       ∷ (e .1 .1 .0 .now ≡ membersAfter (survey (a .0 .now) (length (a .1 .0 .now)) (length (a .1 .1 .0 .now))) (a .1 .1 .0 .now))
       ∷ [];
+}
+
+abbrev pub llunareth-judge-storey : Plain {n = 3} (pNum w64 ∷ pShrS words 0 tt ∷ pShrS (R member) 1 tt ∷ pMutS words 2 tt ∷ []) rUnit
+llunareth-judge-storey = record {
+  requires = λ κs a. [];
+  ensures = λ κs a z e.
+      (e .1 .1 .1 .0 .now ≡ put (ten (storeyReturned (a .0) (storeyBy (λ (j : ℕ). getD (a .1 .0 .now) j 0)) (a .1 .1 .0 .now))) (a .1 .1 .1 .0 .now)) ∷ [];
 }

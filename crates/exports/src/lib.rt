@@ -1,3 +1,5 @@
-// Calls for programs in other languages: numbers and slices in, numbers and slices out.
+// Calls for programs in other languages: numbers and slices in, ten numbers out for each answer.
+pub mod judge_calls;
 pub mod reading_call;
 pub mod record_checks;
+pub mod words;

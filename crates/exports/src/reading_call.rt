@@ -8,6 +8,7 @@ use reading::records::Member;
 use reading::records::Storey;
 use reading::survey::ReadAnswer;
 use reading::survey::Reading;
+use crate::words::put_ten;
 
 // What an answer tells, as ten numbers: refusal and line (0 and 0 where accepted), the header's six fields, the numbers of rows filled.
 fn words_of(r: Reading) -> [u64; 10]
@@ -46,19 +47,11 @@ fn words_of(r: Reading) -> [u64; 10]
     }
 }
 
-// Writes the ten numbers to the front of a buffer that holds them, and else nothing.
 fn put_words(out: &mut [u64], r: Reading)
     ensures { λ _. ⌜ now (out .exit) ≡ put (words (tells (r .answer))) (now (out .entry)) ⌝ }
 {
     let w = words_of(r);
-    if out.len() < 10 {
-        return;
-    }
-    let mut i = 0;
-    while i < 10 {
-        out[i] = w[i];
-        i += 1;
-    }
+    put_ten(out, w);
 }
 
 // Reads a file into lent rows, and puts the ten numbers into `out`.

@@ -1,25 +1,10 @@
 // The checks of one record, given by its numbers in the order of its line; a number that is not given is 0.
 ghost use mathlib.Core.Path.{_≡_};
-ghost use Prim.Native.Nat.{ℕ, _<_};
+ghost use Prim.Native.Nat.{ℕ};
 ghost use lib.ListN.{getD};
 ghost use Rattle.reading.specs.Records.{headerFault, storeyFault, memberFault};
 ghost use Rattle.reading.specs.Lines.{headerBy, storeyBy, memberBy};
-
-// The first 26 numbers of a slice.
-fn values_of(values: &[u64]) -> [u64; 26]
-    ensures { λ r. ⌜ ((j : ℕ) → j < 26 → getD r j 0 ≡ getD (now (values .entry)) j 0) ⌝ }
-{
-    let mut vs = [0u64; 26];
-    let mut j = 0;
-    while j < 26 {
-        if values.len() <= j {
-            return vs;
-        }
-        vs[j] = values[j];
-        j += 1;
-    }
-    vs
-}
+use crate::words::values_of;
 
 #[no_mangle]
 pub extern "C" fn llunareth_header_fault(values: &[u64]) -> u64

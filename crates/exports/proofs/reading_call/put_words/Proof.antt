@@ -1,71 +1,30 @@
-use mathlib.Core.Path.{ap, _≡_, refl, _∙_}
-use lib.ListN.{length-set, length, take, drop}
-use Rattle.reading.specs.Answer.{tells}
-use Rattle.exports.proofs.Front.{words-length, put-none, put-all, front-step}
-use Prim.Native.Nat.{_+_, _-_, _≤_}
-use native.Mathlib.Omega.{arith}
 use borrow.Author.Needs.{needs}
-use mathlib.Core.List.{_++_}
+use mathlib.Core.Path.{ap, _∙_}
+use mathlib.Core.List.{List}
+use Prim.Native.Nat.{ℕ}
+use Rattle.exports.specs.Words.{put}
 use Rattle.exports.proofs.reading_call.put_words.Statement.{statement}
 use Rattle.exports.proofs.reading_call.put_words.Tie as tie
+use Rattle.exports.proofs.reading_call.put_words.Reads as reads
+use Rattle.exports.proofs.reading_call.put_words.Lts as lts
+use Rattle.exports.proofs.reading_call.words_of.Reads as words-of-reads
+use Rattle.exports.proofs.words.put_ten.Reads as put-ten-reads
 
-abbrev Inv-loop : tie.InvT-loop
-Inv-loop out₀ w i₀ out i = (i ≤ 10) × (10 ≤ length out₀) × (length w ≡ 10) × (length out ≡ length out₀) × (out ≡ take i w ++ drop i out₀)
-
-abbrev μ-loop : tie.MeasureT-loop
-μ-loop out₀ w i₀ out i = 10 - i
-
-words-of-requires : tie.Need-words-of-requires Inv-loop μ-loop
+-- src/reading_call.rt:53:9
+words-of-requires : tie.Need-words-of-requires
 words-of-requires c κs = search needs
 
-returns : tie.Need-returns Inv-loop μ-loop
-returns c = put-none (tells (c .before .before .before .args .r .answer)) (c .before .before .before .args .out .now) (c .if1 .taken)
+-- src/reading_call.rt:54:5
+put-ten-requires : tie.Need-put-ten-requires
+put-ten-requires c κs = search needs
 
-loop-holds : tie.Need-loop-holds Inv-loop μ-loop
-loop-holds c = (omega arith, c .if1 .left, ap length (c .before .words-of .ensures) ∙ words-length (tells (c .before .before .before .args .r .answer)), refl, refl)
+-- src/reading_call.rt:50:1
+same-length : tie.Need-same-length
+same-length c = search needs
 
-mul-out : tie.Need-mul-out Inv-loop μ-loop
-mul-out c = search needs
-
-array-read-out : tie.Need-array-read-out Inv-loop μ-loop
-array-read-out c = search needs
-
-mul-out-2 : tie.Need-mul-out-2 Inv-loop μ-loop
-mul-out-2 c = search needs
-
-slice-write-out : tie.Need-slice-write-out Inv-loop μ-loop
-slice-write-out c = search needs
-
-add-i : tie.Need-add-i Inv-loop μ-loop
-add-i c = search needs
-
-loop-less : tie.Need-loop-less Inv-loop μ-loop
-loop-less c = search needs
-
-loop-again : tie.Need-loop-again Inv-loop μ-loop
-loop-again c = (omega arith, c .before .loop .inv .1, c .before .loop .inv .2, simp length-set (c .before .loop .inv .3), front-step (c .before .before .before .words-of .result) (c .before .before .before .before .before .args .out .now) (c .before .loop .out) (c .before .loop .i) (omega arith) (omega arith) (c .before .loop .inv .4))
-
-same-length : tie.Need-same-length Inv-loop μ-loop
-same-length c = c .before .loop .inv .3
-
-returns-2 : tie.Need-returns-2 Inv-loop μ-loop
-returns-2 c = put-all (tells (c .before .before .before .before .before .args .r .answer)) (c .before .before .before .before .before .args .out .now) (c .before .before .before .words-of .result) (c .before .loop .out) (c .before .loop .i) (c .before .before .before .words-of .ensures) (c .before .loop .inv .1) (c .loop-test .left) (c .before .loop .inv .0) (c .before .loop .inv .4)
+-- src/reading_call.rt:50:1
+returns : tie.Need-returns
+returns c = c .before .before .put-ten .ensures ∙ ap (λ (w : List ℕ). put w (c .before .before .before .before .before .before .args .out .now)) (c .before .before .before .before .words-of .ensures)
 
 pub put-words-spec : {M : Type 1} → statement M
-put-words-spec =
-    tie.close
-    (tie.spec
-    Inv-loop
-    μ-loop
-    words-of-requires
-    returns
-    loop-holds
-    mul-out
-    array-read-out
-    mul-out-2
-    slice-write-out
-    add-i
-    loop-less
-    loop-again
-    same-length
-    returns-2)
+put-words-spec = tie.close (tie.spec words-of-requires put-ten-requires same-length returns)

@@ -1,8 +1,8 @@
 use Prim.Native.Nat.{_-_}
 use borrow.Author.Needs.{needs}
 use Rattle.exports.proofs.Values.{Copied, copied-none, copied-next, copied-all, copied-short}
-use Rattle.exports.proofs.record_checks.values_of.Statement.{statement}
-use Rattle.exports.proofs.record_checks.values_of.Tie as tie
+use Rattle.exports.proofs.words.values_of.Statement.{statement}
+use Rattle.exports.proofs.words.values_of.Tie as tie
 
 abbrev Inv-loop : tie.InvT-loop
 Inv-loop values vs₀ j₀ vs j = Copied values vs j

@@ -1,0 +1,77 @@
+// The calls on a member, a storey and a building.
+ghost use mathlib.Core.Path.{_≡_};
+ghost use Prim.Native.Nat.{ℕ};
+ghost use lib.ListN.{getD};
+ghost use Rattle.reading.specs.Lines.{memberBy, storeyBy};
+ghost use Rattle.storeys.specs.Storey.{returnedStorey, storeyReturned};
+ghost use Rattle.members.specs.Finding.{returned, memberReturned};
+ghost use Rattle.exports.specs.Words.{put, ten};
+use crate::words::flag;
+use crate::words::put_ten;
+use crate::words::values_of;
+use members::finding::MemberAnswer;
+use members::finding::judge_member;
+use reading::lines::member_of;
+use reading::lines::storey_of;
+use reading::records::Member;
+use reading::records::Storey;
+use storeys::StoreyAnswer;
+use storeys::StoreyJudgment;
+use storeys::storey::judge_storey;
+
+// Refusal, line, class, m, its limit, rotation, its limit, over, n_D.
+fn member_words(a: MemberAnswer) -> [u64; 10]
+    ensures { λ r. ⌜ r ≡ ten (returned a) ⌝ }
+{
+    match a {
+        MemberAnswer::Judged(f) => {
+            let class = f.class;
+            [0, 0, class.code(), f.m.0, f.m_limit.0, f.rotation.0, f.rotation_limit.0, flag(f.over), f.nd.0, 0]
+        }
+        MemberAnswer::Refused(n) => [n, 0, 0, 0, 0, 0, 0, 0, 0, 0],
+    }
+}
+
+// A member, given by its 26 numbers, judged with k and whether its storey meets the 0.40 condition.
+#[no_mangle]
+pub extern "C" fn llunareth_judge_member(k: u64, met: bool, values: &[u64], out: &mut [u64])
+    ensures { λ _. ⌜ now (out .exit) ≡ put (ten (memberReturned k met (memberBy (λ (j : ℕ). getD (now (values .entry)) j 0)))) (now (out .entry)) ⌝ }
+{
+    let vs = values_of(values);
+    let a = judge_member(k, met, member_of(vs));
+    put_ten(out, member_words(a));
+}
+
+fn storey_given(values: &[u64]) -> Storey
+    ensures { λ r. ⌜ r ≡ storeyBy (λ (j : ℕ). getD (now (values .entry)) j 0) ⌝ }
+{
+    let vs = values_of(values);
+    storey_of(vs)
+}
+
+// Refusal, line, Σ, c, P, W, Risky, and whether the 0.40 condition is met.
+fn storey_words(r: StoreyJudgment) -> [u64; 10]
+    ensures { λ w. ⌜ w ≡ ten (returnedStorey (r .answer)) ⌝ }
+{
+    let a = r.answer;
+    match a {
+        StoreyAnswer::Judged(f) => [0, 0, f.axial, f.members, f.over, f.shear, flag(f.risky), flag(f.walls), 0, 0],
+        StoreyAnswer::Refused(n) => [n, 0, 0, 0, 0, 0, 0, 0, 0, 0],
+    }
+}
+
+fn put_storey(out: &mut [u64], r: StoreyJudgment)
+    ensures { λ _. ⌜ now (out .exit) ≡ put (ten (returnedStorey (r .answer))) (now (out .entry)) ⌝ }
+{
+    put_ten(out, storey_words(r));
+}
+
+// A storey, given by its three numbers, and its members, judged with k.
+#[no_mangle]
+pub extern "C" fn llunareth_judge_storey(k: u64, storey: &[u64], members: &[Member], out: &mut [u64])
+    ensures { λ _. ⌜ now (out .exit) ≡ put (ten (storeyReturned k (storeyBy (λ (j : ℕ). getD (now (storey .entry)) j 0)) (now (members .entry)))) (now (out .entry)) ⌝ }
+{
+    let s = storey_given(storey);
+    let r = judge_storey(k, s, members);
+    put_storey(out, r);
+}

@@ -1,0 +1,45 @@
+// The ten numbers of an answer.
+ghost use mathlib.Core.Path.{_≡_};
+ghost use Prim.Native.Nat.{ℕ, _<_};
+ghost use lib.ListN.{getD};
+ghost use Rattle.exports.specs.Words.{put};
+ghost use Rattle.members.specs.Finding.{flag as flagOf};
+
+// Writes ten numbers to the front of a buffer that holds them, and else nothing.
+pub(crate) fn put_ten(out: &mut [u64], w: [u64; 10])
+    ensures { λ _. ⌜ now (out .exit) ≡ put w (now (out .entry)) ⌝ }
+{
+    if out.len() < 10 {
+        return;
+    }
+    let mut i = 0;
+    while i < 10 {
+        out[i] = w[i];
+        i += 1;
+    }
+}
+
+// The first 26 numbers of a slice; a number that is not given is 0.
+pub(crate) fn values_of(values: &[u64]) -> [u64; 26]
+    ensures { λ r. ⌜ ((j : ℕ) → j < 26 → getD r j 0 ≡ getD (now (values .entry)) j 0) ⌝ }
+{
+    let mut vs = [0u64; 26];
+    let mut j = 0;
+    while j < 26 {
+        if values.len() <= j {
+            return vs;
+        }
+        vs[j] = values[j];
+        j += 1;
+    }
+    vs
+}
+
+pub(crate) fn flag(b: bool) -> u64
+    ensures { λ r. ⌜ r ≡ flagOf b ⌝ }
+{
+    if b {
+        return 1;
+    }
+    0
+}
