@@ -35,18 +35,18 @@ unfolding membersBefore
 before-none zero = refl
 before-none (suc i) = rw (before-none i)
 
-before-next : (s : Storey) (ss : List Storey) (i : ℕ) → membersBefore (s ∷ ss) (suc i) ≡ s .count + membersBefore ss i
+pub before-next : (s : Storey) (ss : List Storey) (i : ℕ) → membersBefore (s ∷ ss) (suc i) ≡ s .count + membersBefore ss i
 unfolding membersBefore
 before-next s ss zero = omega arith
 before-next s ss (suc i) = omega (arith, before-next s ss i)
 
-before-within : (ss : List Storey) (i : ℕ) → membersBefore ss i ≤ total (λ s. s .count) ss
+pub before-within : (ss : List Storey) (i : ℕ) → membersBefore ss i ≤ total (λ s. s .count) ss
 unfolding total membersBefore
 before-within [] i = rw (before-none i) (omega arith)
 before-within (s ∷ ss) zero = omega arith
 before-within (s ∷ ss) (suc i) = omega (arith, before-next s ss i, before-within ss i)
 
-members-counted : (ss : List Storey) (ms : List Member) (i : ℕ) → total (λ s. s .count) ss ≡ length ms → storeyAt ss i .count ≡ length (membersOf ss ms i)
+pub members-counted : (ss : List Storey) (ms : List Member) (i : ℕ) → total (λ s. s .count) ss ≡ length ms → storeyAt ss i .count ≡ length (membersOf ss ms i)
 unfolding membersOf membersBefore
 members-counted ss ms i e =
     let b = membersBefore ss i in
@@ -61,7 +61,7 @@ pub record Sound (rules : Rules) (k : ℕ) (f : Floor) : Type 0 where
   pub shear : shearFault (overShear rules k (meetsWallShare (f .storey .shear) (f .members)) (f .members)) ≡ 0
 
 -- k is one of the two levels
-header-known : (h : Header) → headerFault h ≡ 0 → knowledge (h .knowledge) ≡ true
+pub header-known : (h : Header) → headerFault h ≡ 0 → knowledge (h .knowledge) ≡ true
 unfolding headerFault
 header-known h e = every-at (inRange B (headerValues h)) 6 0 (clear (every (inRange B (headerValues h)) 6) _ 3 e (omega arith) .0) (omega arith)
 

@@ -14,3 +14,8 @@ pub mod Loops
 pub mod Called
 pub mod Says
 pub mod Structs
+pub mod Verdicts
+pub mod BuildingStructs
+pub mod BuildingSays
+pub mod BuildingRows
+pub mod BuildingAnswers

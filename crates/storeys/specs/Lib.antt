@@ -6,3 +6,4 @@ pub mod Pairing
 pub mod Demand3
 pub mod Edges
 pub mod Needed
+pub mod Verdict

@@ -3,6 +3,7 @@
 pub mod building;
 pub mod row;
 pub mod storey;
+pub mod verdict;
 
 // What a storey is found to be.
 pub struct StoreyFinding {

@@ -1,5 +1,5 @@
 //! The proved library called from Rust, and its answers as the independent program's types.
-use independent::{Header, Member, Refusal, Storey, Survey};
+use independent::{Header, Member, MemberFinding, Refusal, Storey, StoreyFinding, Survey};
 
 /// A storey as the proved library lays it out.
 #[repr(C)]
@@ -25,6 +25,26 @@ extern "C" {
     fn llunareth_header_fault(values: *const u64, len: usize) -> u64;
     fn llunareth_storey_fault(values: *const u64, len: usize) -> u64;
     fn llunareth_member_fault(values: *const u64, len: usize) -> u64;
+    fn llunareth_judge_member(k: u64, met: bool, values: *const u64, len: usize, out: *mut u64, out_len: usize);
+    fn llunareth_judge_storey(
+        k: u64,
+        storey: *const u64,
+        storey_len: usize,
+        members: *const MemberRow,
+        members_len: usize,
+        out: *mut u64,
+        out_len: usize,
+    );
+    fn llunareth_judge_building(
+        header: *const u64,
+        header_len: usize,
+        storeys: *const StoreyRow,
+        storeys_len: usize,
+        members: *const MemberRow,
+        members_len: usize,
+        out: *mut u64,
+        out_len: usize,
+    );
 }
 
 const ZERO_FORCE: i128 = 1_000_000;
@@ -101,4 +121,87 @@ pub fn storey_fault(values: &[u64]) -> u64 {
 
 pub fn member_fault(values: &[u64]) -> u64 {
     unsafe { llunareth_member_fault(values.as_ptr(), values.len()) }
+}
+
+/// The refusal of ten numbers put out, or their values.
+fn answer(out: [u64; 10]) -> Result<[u64; 8], Refusal> {
+    assert_eq!(out[1], 0, "calls on records have no line");
+    if out[0] != 0 {
+        assert_eq!(&out[2..], &[0; 8], "a refusal tells nothing else");
+        return Err(Refusal::of_record(out[0] as u8));
+    }
+    Ok(std::array::from_fn(|j| out[2 + j]))
+}
+
+/// The proved call on a member, given by its stored numbers. `n` is not part of its answer, so it is taken over from `like`.
+pub fn judge_member(k: u64, met: bool, numbers: &[u64; 26], like: u64) -> Result<MemberFinding, Refusal> {
+    let mut out = [u64::MAX; 10];
+    unsafe { llunareth_judge_member(k, met, numbers.as_ptr(), numbers.len(), out.as_mut_ptr(), out.len()) }
+    let v = answer(out)?;
+    assert_eq!(v[7], 0);
+    Ok(MemberFinding {
+        class: v[0] as u8,
+        n_d: v[6],
+        n: like,
+        m: v[1],
+        m_limit: v[2],
+        rotation: v[3],
+        rotation_limit: v[4],
+        over: v[5] == 1,
+    })
+}
+
+/// The members as rows; `None` where a force has no stored number.
+pub fn member_rows(members: &[Member]) -> Option<Vec<MemberRow>> {
+    members.iter().map(|m| member_numbers(m).map(MemberRow)).collect()
+}
+
+/// The proved call on a storey.
+pub fn judge_storey(k: u64, s: &Storey, rows: &[MemberRow]) -> Result<StoreyFinding, Refusal> {
+    let storey = [s.number, s.shear, s.member_count];
+    let mut out = [u64::MAX; 10];
+    unsafe {
+        llunareth_judge_storey(k, storey.as_ptr(), storey.len(), rows.as_ptr(), rows.len(), out.as_mut_ptr(), out.len());
+    }
+    let v = answer(out)?;
+    assert_eq!(v[6..], [0, 0]);
+    Ok(StoreyFinding {
+        number: s.number,
+        sum: v[0],
+        c: v[1],
+        p: v[2],
+        w: v[3],
+        risky: v[4] == 1,
+        meets_wall_share: v[5] == 1,
+    })
+}
+
+/// What the proved call on a building answers.
+#[derive(Clone, Copy, Debug, PartialEq, Eq)]
+pub struct Building {
+    pub tilt_above: bool,
+    pub risky: bool,
+    pub place: u64,
+}
+
+/// The proved call on a building.
+pub fn judge_building(h: &Header, storeys: &[Storey], rows: &[MemberRow]) -> Result<Building, Refusal> {
+    let header = h.fields().map(|v| v as u64);
+    let storeys: Vec<StoreyRow> = storeys.iter().map(|s| StoreyRow([s.number, s.shear, s.member_count])).collect();
+    let mut out = [u64::MAX; 10];
+    unsafe {
+        llunareth_judge_building(
+            header.as_ptr(),
+            header.len(),
+            storeys.as_ptr(),
+            storeys.len(),
+            rows.as_ptr(),
+            rows.len(),
+            out.as_mut_ptr(),
+            out.len(),
+        );
+    }
+    let v = answer(out)?;
+    assert_eq!(v[3..], [0; 5]);
+    Ok(Building { tilt_above: v[0] == 1, risky: v[1] == 1, place: v[2] })
 }

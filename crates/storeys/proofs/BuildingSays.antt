@@ -1,0 +1,69 @@
+-- The contracts of the functions over the rows of a building, for their walks and for their callers' walks. Each is checked against the
+-- function's own clauses where the function is proved.
+use Prim.Native.Nat.{ℕ, _≤_}
+use mathlib.Core.Bool.{true}
+use mathlib.Core.List.{[], _∷_}
+use mathlib.Core.Path.{_≡_}
+use lib.Dec.{eqb}
+use lib.ListN.{length}
+use mir.Syntax.{w64}
+use borrow.Fn.Kinds.{rNum, rBool}
+use borrow.Kind.Num.{pNum}
+use borrow.Kind.ShrSlice.{pShrS}
+use Rattle.reading.specs.First.{pick, any, first}
+use Rattle.reading.specs.Records.{storeyFault}
+use Rattle.reading.proofs.Structs.{member, storey}
+use Rattle.members.specs.Finding.{knowledge}
+use Rattle.storeys.specs.Totals.{total}
+use Rattle.storeys.specs.Storey.{publishedRules, membersFault, storeyFinding}
+use Rattle.storeys.specs.Tally.{Rows}
+use Rattle.storeys.specs.Building.{storeyAt, storeyRowsFault, Answers as Answered, placeIn, returnedBuilding, buildingReturned}
+use Rattle.storeys.specs.Verdict.{verdictOf, Counted, GoodRows}
+use Rattle.walk.proofs.Fn.{Plain}
+use Rattle.walk.proofs.Slice.{R, taken, made}
+use Rattle.storeys.proofs.BuildingStructs.{header, storeyfinding, verdict, buildingjudgment}
+
+abbrev pub members-fault : Plain {n = 1} (pShrS (R member) 0 tt ∷ []) (rNum w64)
+members-fault = record {
+  requires = λ κs a. [];
+  ensures = λ κs a z e. (z ≡ membersFault (a .0 .now)) ∷ [];
+}
+
+abbrev pub found : Plain {n = 1} (pNum w64 ∷ taken storey ∷ pShrS (R member) 0 tt ∷ []) (made storeyfinding)
+found = record {
+  requires = λ κs a. (Rows (a .1 .1 .0 .now) × (knowledge (a .0) ≡ true) × (storeyFault (a .1 .0) ≡ 0)) ∷ [];
+  ensures = λ κs a z e. (z ≡ storeyFinding publishedRules (a .0) (a .1 .0 .shear) (a .1 .1 .0 .now)) ∷ [];
+}
+
+abbrev pub counts-fit : Plain {n = 1} (pShrS (R storey) 0 tt ∷ pNum w64 ∷ []) rBool
+counts-fit = record {
+  requires = λ κs a. [];
+  ensures = λ κs a z e. (z ≡ eqb (total (λ s. s .count) (a .0 .now)) (a .1 .0)) ∷ [];
+}
+
+abbrev pub storey-repeat-fault : Plain {n = 1} (pShrS (R storey) 0 tt ∷ pNum w64 ∷ pNum w64 ∷ []) (rNum w64)
+storey-repeat-fault = record {
+  requires = λ κs a. (a .1 .0 ≤ length (a .0 .now)) ∷ [];
+  ensures = λ κs a z e. (z ≡ pick (any (λ (e : ℕ). eqb (storeyAt (a .0 .now) e .number) (a .1 .1 .0)) (a .1 .0)) 5 0) ∷ [];
+}
+
+abbrev pub rows-fault : Plain {n = 2} (pShrS (R storey) 0 tt ∷ pShrS (R member) 1 tt ∷ []) (rNum w64)
+rows-fault = record {
+  requires = λ κs a. (Counted (a .0 .now) (a .1 .0 .now)) ∷ [];
+  ensures = λ κs a z e. (z ≡ first 0 (λ n. n) (storeyRowsFault (a .0 .now) (a .1 .0 .now)) (length (a .0 .now))) ∷ [];
+}
+
+abbrev pub storeys-verdict : Plain {n = 2} (pNum w64 ∷ pShrS (R storey) 0 tt ∷ pShrS (R member) 1 tt ∷ []) (made verdict)
+storeys-verdict = record {
+  requires = λ κs a. (GoodRows (a .0) (a .1 .0 .now) (a .1 .1 .0 .now)) ∷ [];
+  ensures = λ κs a z e. (z ≡ verdictOf (a .0) (a .1 .0 .now) (a .1 .1 .0 .now) (length (a .1 .0 .now))) ∷ [];
+}
+
+abbrev pub judge-building : Plain {n = 2} (taken header ∷ pShrS (R storey) 0 tt ∷ pShrS (R member) 1 tt ∷ []) (made buildingjudgment)
+judge-building = record {
+  requires = λ κs a. [];
+  ensures = λ κs a z e.
+      Answered publishedRules (a .0) (a .1 .0 .now) (a .1 .1 .0 .now) (z .answer)
+      ∷ (returnedBuilding (z .answer) ≡ buildingReturned (a .0) (a .1 .0 .now) (a .1 .1 .0 .now) (placeIn (z .answer)))
+      ∷ [];
+}

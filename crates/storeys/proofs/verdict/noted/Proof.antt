@@ -1,0 +1,28 @@
+use borrow.Author.Needs.{needs}
+use Rattle.storeys.proofs.verdict.noted.Statement.{statement}
+use Rattle.storeys.proofs.verdict.noted.Tie as tie
+
+shear-fault-requires : tie.Need-shear-fault-requires
+shear-fault-requires c κs = search needs
+
+first-of-requires : tie.Need-first-of-requires
+first-of-requires c κs = search needs
+
+place-if-risky-requires : tie.Need-place-if-risky-requires
+place-if-risky-requires c κs = search needs
+
+first-of-requires-2 : tie.Need-first-of-requires-2
+first-of-requires-2 c κs = search needs
+
+returns : tie.Need-returns
+returns c = rw (c .first-of2 .ensures, c .before .place-if-risky .ensures, c .before .before .first-of .ensures, c .before .before .before .shear-fault .ensures)
+
+pub noted-spec : {M : Type 1} → statement M
+noted-spec =
+    tie.close
+    (tie.spec
+    shear-fault-requires
+    first-of-requires
+    place-if-risky-requires
+    first-of-requires-2
+    returns)

@@ -1,0 +1,132 @@
+// The parts of the call on a building that look into records: the header, and each storey's finding.
+ghost use mathlib.Core.Path.{_≡_};
+ghost use mathlib.Core.Bool.{_||_};
+ghost use lib.Dec.{eqb, ltb};
+ghost use Rattle.reading.specs.First.{pick};
+ghost use Rattle.storeys.specs.Storey.{shearFault};
+ghost use Rattle.storeys.specs.Building.{tilted};
+ghost use Rattle.storeys.specs.Verdict.{noVerdict, notedBy, headerCallFault, verdictAnswer};
+use crate::BuildingAnswer;
+use crate::BuildingFinding;
+use crate::BuildingJudgment;
+use crate::StoreyFinding;
+use reading::ranges::header_fault;
+use reading::records::Header;
+
+// What is found of some storeys, from the first on.
+pub(crate) struct Verdict {
+    // 10 where P of one of them is above its bound, else 0
+    pub fault: u64,
+    // the place of the first Risky one, counted from 1; 0 where none is
+    pub place: u64,
+}
+
+pub(crate) fn no_verdict() -> Verdict
+    ensures { λ r. ⌜ r ≡ noVerdict ⌝ }
+{
+    Verdict { fault: 0, place: 0 }
+}
+
+// 10 where P is above its bound.
+fn shear_fault(f: StoreyFinding) -> u64
+    ensures { λ r. ⌜ r ≡ shearFault (f .over) ⌝ }
+{
+    if 9_999_999_999 < f.over {
+        return 10;
+    }
+    0
+}
+
+// The place of a Risky storey, and of another 0.
+fn place_if_risky(f: StoreyFinding, place: usize) -> u64
+    ensures { λ r. ⌜ r ≡ pick (f .risky) place 0 ⌝ }
+{
+    if f.risky {
+        return place as u64;
+    }
+    0
+}
+
+// `a`, and where that is 0, `b`.
+fn first_of(a: u64, b: u64) -> u64
+    ensures { λ r. ⌜ r ≡ pick (eqb a 0) b a ⌝ }
+{
+    if a == 0 {
+        return b;
+    }
+    a
+}
+
+// With one storey more, at its place.
+pub(crate) fn noted(v: Verdict, place: usize, f: StoreyFinding) -> Verdict
+    ensures { λ r. ⌜ r ≡ notedBy v place f ⌝ }
+{
+    Verdict {
+        fault: first_of(v.fault, shear_fault(f)),
+        place: first_of(v.place, place_if_risky(f, place)),
+    }
+}
+
+pub(crate) fn level_of(h: Header) -> u64
+    ensures { λ r. ⌜ r ≡ h .knowledge ⌝ }
+{
+    h.knowledge
+}
+
+// The refusals of the call on a building before its rows': 1, and the header's 3 and 7.
+pub(crate) fn header_call_fault(h: Header, storeys: usize, fit: bool) -> u64
+    ensures { λ r. ⌜ r ≡ headerCallFault h storeys fit ⌝ }
+{
+    if h.count != storeys as u64 {
+        return 1;
+    }
+    if !fit {
+        return 1;
+    }
+    header_fault(h)
+}
+
+// The larger tilt is above 25,000.
+fn is_tilted(h: Header) -> bool
+    ensures { λ r. ⌜ r ≡ tilted h ⌝ }
+{
+    if 25_000 < h.tilt1 {
+        return true;
+    }
+    25_000 < h.tilt2
+}
+
+// Some storey is Risky, or the building is tilted.
+fn building_risky(place: u64, tilted: bool) -> bool
+    ensures { λ r. ⌜ r ≡ (ltb 0 place || tilted) ⌝ }
+{
+    if 0 < place {
+        return true;
+    }
+    tilted
+}
+
+pub(crate) fn refused_building(number: u64) -> BuildingJudgment
+    ensures { λ r. ⌜ r .answer ≡ BuildingAnswer.Refused number ⌝ }
+{
+    BuildingJudgment {
+        answer: BuildingAnswer::Refused(number),
+    }
+}
+
+// The finding, or 10.
+pub(crate) fn judged_building(h: Header, v: Verdict) -> BuildingJudgment
+    ensures { λ r. ⌜ r .answer ≡ verdictAnswer h v ⌝ }
+{
+    if v.fault != 0 {
+        return refused_building(v.fault);
+    }
+    let tilted = is_tilted(h);
+    BuildingJudgment {
+        answer: BuildingAnswer::Judged(BuildingFinding {
+            tilted: tilted,
+            risky: building_risky(v.place, tilted),
+            place: v.place,
+        }),
+    }
+}

@@ -1,0 +1,135 @@
+//! The calls on a member and a storey against the independent program.
+use compare::{judge_building, judge_member, judge_storey, member_numbers, member_rows};
+use generator::{edge_member_for, valid_survey, wild_member, wild_storey, wild_survey, Rng};
+use independent::{Member, Refusal, Storey, Survey};
+
+const SEED: u64 = 20_260_116;
+
+fn same_member(k: u64, met: bool, m: &Member) -> Option<Refusal> {
+    let numbers = member_numbers(m)?;
+    let expected = independent::judge_member(k, met, m);
+    let n = expected.as_ref().map_or(0, |f| f.n);
+    assert_eq!(judge_member(k, met, &numbers, n), expected, "k {k}, met {met}: {m:?}");
+    expected.err()
+}
+
+#[test]
+fn members_at_every_edge() {
+    let mut rng = Rng::new(SEED);
+    let (mut classes, mut overs) = ([0u32; 6], [0u32; 2]);
+    for _ in 0..60_000 {
+        let k = if rng.chance(50) { 90 } else { 100 };
+        let m = edge_member_for(&mut rng, k);
+        for met in [false, true] {
+            assert_eq!(same_member(k, met, &m), None);
+        }
+        let f = independent::judge_member(k, true, &m).unwrap();
+        classes[f.class as usize] += 1;
+        overs[usize::from(f.over)] += 1;
+    }
+    assert!(classes[1..].iter().all(|&n| n > 500), "every class comes up: {classes:?}");
+    assert!(overs.iter().all(|&n| n > 500), "over and not: {overs:?}");
+}
+
+#[test]
+fn wild_members_and_levels() {
+    let mut rng = Rng::new(SEED + 1);
+    let mut seen = [0u32; 5];
+    for _ in 0..40_000 {
+        let k = rng.pick(&[0, 89, 90, 91, 99, 100, 101, u64::MAX, 90, 100, 90, 100]);
+        if let Some(r) = same_member(k, rng.chance(50), &wild_member(&mut rng)) {
+            seen[r.number as usize] += 1;
+        }
+    }
+    assert!(seen[3] > 500 && seen[4] > 50, "{seen:?}");
+}
+
+fn same_storey(k: u64, s: &Storey, members: &[Member]) -> Option<Refusal> {
+    let rows = member_rows(members)?;
+    let expected = independent::judge_storey(k, s, members);
+    assert_eq!(judge_storey(k, s, &rows), expected, "k {k}, {s:?}, {members:?}");
+    expected.err()
+}
+
+#[test]
+fn storeys_of_accepted_surveys() {
+    let mut rng = Rng::new(SEED + 2);
+    let mut risky = [0u32; 2];
+    for _ in 0..3_000 {
+        let survey = valid_survey(&mut rng);
+        let mut rest = &survey.members[..];
+        for s in &survey.storeys {
+            let (mut own, after) = (rest[..s.member_count as usize].to_vec(), &rest[s.member_count as usize..]);
+            rest = after;
+            assert_eq!(same_storey(survey.header.knowledge, s, &own), None);
+            let first = independent::judge_storey(survey.header.knowledge, s, &own).unwrap();
+            risky[usize::from(first.risky)] += 1;
+            own.reverse();
+            assert_eq!(independent::judge_storey(survey.header.knowledge, s, &own).unwrap(), first, "in any order");
+            same_storey(survey.header.knowledge, s, &own);
+        }
+    }
+    assert!(risky.iter().all(|&n| n > 300), "{risky:?}");
+}
+
+#[test]
+fn wild_storeys() {
+    let mut rng = Rng::new(SEED + 3);
+    let mut seen = [0u32; 6];
+    for _ in 0..20_000 {
+        let survey = wild_survey(&mut rng);
+        let k = rng.pick(&[90, 100, 90, 100, 90, 100, 95]);
+        let wild = wild_storey(&mut rng);
+        let s = if rng.chance(25) { &wild } else { survey.storeys.first().unwrap_or(&wild) };
+        let n = if rng.chance(20) { survey.members.len() } else { (s.member_count as usize).min(survey.members.len()) };
+        if let Some(r) = same_storey(k, s, &survey.members[..n]) {
+            seen[r.number as usize] += 1;
+        }
+    }
+    assert!([1, 3, 4, 5].iter().all(|&n| seen[n] > 20), "refusals 1, 3, 4 and 5 come up: {seen:?}");
+}
+
+fn same_building(survey: &Survey) -> Option<Refusal> {
+    let rows = member_rows(&survey.members)?;
+    let proved = judge_building(&survey.header, &survey.storeys, &rows);
+    match independent::judge_building(&survey.header, &survey.storeys, &survey.members) {
+        Err(refusal) => {
+            assert_eq!(proved, Err(refusal), "{survey:?}");
+            Some(refusal)
+        }
+        Ok(expected) => {
+            let found = proved.expect("accepted by the independent program");
+            assert_eq!((found.tilt_above, found.risky), (expected.tilt_above, expected.risky), "{survey:?}");
+            let places = expected.risky_places;
+            let named = if places.is_empty() { found.place == 0 } else { places.contains(&found.place) };
+            assert!(named, "place {} of {places:?}: {survey:?}", found.place);
+            None
+        }
+    }
+}
+
+#[test]
+fn buildings() {
+    let mut rng = Rng::new(SEED + 4);
+    for _ in 0..3_000 {
+        assert_eq!(same_building(&valid_survey(&mut rng)), None);
+    }
+    let mut seen = [0u32; 8];
+    for _ in 0..20_000 {
+        if let Some(r) = same_building(&wild_survey(&mut rng)) {
+            seen[r.number as usize] += 1;
+        }
+    }
+    assert!([1, 3, 4, 5, 7].iter().all(|&n| seen[n] > 20), "refusals 1, 3, 4, 5 and 7 come up: {seen:?}");
+}
+
+#[test]
+fn counts_that_would_overflow() {
+    let mut rng = Rng::new(SEED + 5);
+    let mut survey = valid_survey(&mut rng);
+    for count in [0, u64::MAX, u64::MAX - survey.members.len() as u64 + 1] {
+        survey.storeys[0].member_count = count;
+        survey.header.storey_count = survey.storeys.len() as u64;
+        same_building(&survey);
+    }
+}
