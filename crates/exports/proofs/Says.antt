@@ -15,9 +15,9 @@ use Rattle.reading.specs.Answer.{told, storeysAfter, membersAfter}
 use Rattle.walk.proofs.Fn.{Plain}
 use Rattle.walk.proofs.Slice.{R}
 use Rattle.reading.proofs.Structs.{member, storey}
-use Rattle.reading.specs.Lines.{storeyBy}
+use Rattle.reading.specs.Lines.{headerBy, storeyBy}
 use Rattle.storeys.specs.Storey.{storeyReturned}
-use Rattle.exports.specs.Words.{words as wordsOf, put, ten}
+use Rattle.exports.specs.Words.{words as wordsOf, put, ten, BuildingWritten}
 
 abbrev pub bytes : RattleType
 bytes = rtF (fInt w8)
@@ -40,4 +40,11 @@ llunareth-judge-storey = record {
   requires = λ κs a. [];
   ensures = λ κs a z e.
       (e .1 .1 .1 .0 .now ≡ put (ten (storeyReturned (a .0) (storeyBy (λ (j : ℕ). getD (a .1 .0 .now) j 0)) (a .1 .1 .0 .now))) (a .1 .1 .1 .0 .now)) ∷ [];
+}
+
+abbrev pub llunareth-judge-building : Plain {n = 4} (pShrS words 0 tt ∷ pShrS (R storey) 1 tt ∷ pShrS (R member) 2 tt ∷ pMutS words 3 tt ∷ []) rUnit
+llunareth-judge-building = record {
+  requires = λ κs a. [];
+  ensures = λ κs a z e.
+      BuildingWritten (headerBy (λ (j : ℕ). getD (a .0 .now) j 0)) (a .1 .0 .now) (a .1 .1 .0 .now) (a .1 .1 .1 .0 .now) (e .1 .1 .1 .0 .now) ∷ [];
 }

@@ -1,11 +1,18 @@
--- The answer of the reading call as numbers, for other languages.
+-- The answers of the calls as numbers, for other languages.
 use Prim.Native.Nat.{ℕ}
 use mathlib.Core.List.{List, [], _∷_, _++_}
+use mathlib.Core.Path.{_≡_}
 use lib.Dec.{leb}
 use lib.ListN.{length, take, drop}
 use Rattle.reading.specs.First.{pick}
 use Rattle.members.specs.Finding.{Returned}
 use Rattle.reading.specs.Answer.{Told, filled, refusal}
+use Rattle.reading.specs.declared.records.Header.{Header}
+use Rattle.reading.specs.declared.records.Storey.{Storey}
+use Rattle.reading.specs.declared.records.Member.{Member}
+use Rattle.storeys.specs.declared.BuildingAnswer.{BuildingAnswer}
+use Rattle.storeys.specs.Storey.{publishedRules}
+use Rattle.storeys.specs.Building.{Answers, returnedBuilding}
 
 -- refusal and line, 0 and 0 where accepted; the header's six fields; the numbers of storey and member rows filled
 abbrev pub words : Told → List ℕ
@@ -30,3 +37,9 @@ put ws buffer = pick (leb (length ws) (length buffer)) (ws ++ drop (length ws) b
 -- an answer on records as ten numbers: refusal and line, the values, and zeros
 abbrev pub ten : Returned → List ℕ
 ten r = r .refusal ∷ r .line ∷ take 8 (r .values ++ (0 ∷ 0 ∷ 0 ∷ 0 ∷ 0 ∷ 0 ∷ 0 ∷ 0 ∷ []))
+
+-- what the call on a building leaves in a buffer: the ten numbers of an answer that the paper gives
+pub record BuildingWritten (h : Header) (ss : List Storey) (ms : List Member) (before after : List ℕ) : Type 0 where
+  pub answer : BuildingAnswer
+  pub given : Answers publishedRules h ss ms answer
+  pub written : after ≡ put (ten (returnedBuilding answer)) before

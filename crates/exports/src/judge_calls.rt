@@ -2,21 +2,27 @@
 ghost use mathlib.Core.Path.{_≡_};
 ghost use Prim.Native.Nat.{ℕ};
 ghost use lib.ListN.{getD};
-ghost use Rattle.reading.specs.Lines.{memberBy, storeyBy};
+ghost use Rattle.reading.specs.Lines.{headerBy, memberBy, storeyBy};
 ghost use Rattle.storeys.specs.Storey.{returnedStorey, storeyReturned};
 ghost use Rattle.members.specs.Finding.{returned, memberReturned};
-ghost use Rattle.exports.specs.Words.{put, ten};
+ghost use Rattle.storeys.specs.Building.{returnedBuilding};
+ghost use Rattle.exports.specs.Words.{put, ten, BuildingWritten};
 use crate::words::flag;
 use crate::words::put_ten;
 use crate::words::values_of;
 use members::finding::MemberAnswer;
 use members::finding::judge_member;
+use reading::lines::header_of;
 use reading::lines::member_of;
 use reading::lines::storey_of;
+use reading::records::Header;
 use reading::records::Member;
 use reading::records::Storey;
+use storeys::BuildingAnswer;
+use storeys::BuildingJudgment;
 use storeys::StoreyAnswer;
 use storeys::StoreyJudgment;
+use storeys::building::judge_building;
 use storeys::storey::judge_storey;
 
 // Refusal, line, class, m, its limit, rotation, its limit, over, n_D.
@@ -26,7 +32,18 @@ fn member_words(a: MemberAnswer) -> [u64; 10]
     match a {
         MemberAnswer::Judged(f) => {
             let class = f.class;
-            [0, 0, class.code(), f.m.0, f.m_limit.0, f.rotation.0, f.rotation_limit.0, flag(f.over), f.nd.0, 0]
+            [
+                0,
+                0,
+                class.code(),
+                f.m.0,
+                f.m_limit.0,
+                f.rotation.0,
+                f.rotation_limit.0,
+                flag(f.over),
+                f.nd.0,
+                0,
+            ]
         }
         MemberAnswer::Refused(n) => [n, 0, 0, 0, 0, 0, 0, 0, 0, 0],
     }
@@ -55,7 +72,18 @@ fn storey_words(r: StoreyJudgment) -> [u64; 10]
 {
     let a = r.answer;
     match a {
-        StoreyAnswer::Judged(f) => [0, 0, f.axial, f.members, f.over, f.shear, flag(f.risky), flag(f.walls), 0, 0],
+        StoreyAnswer::Judged(f) => [
+            0,
+            0,
+            f.axial,
+            f.members,
+            f.over,
+            f.shear,
+            flag(f.risky),
+            flag(f.walls),
+            0,
+            0,
+        ],
         StoreyAnswer::Refused(n) => [n, 0, 0, 0, 0, 0, 0, 0, 0, 0],
     }
 }
@@ -68,10 +96,54 @@ fn put_storey(out: &mut [u64], r: StoreyJudgment)
 
 // A storey, given by its three numbers, and its members, judged with k.
 #[no_mangle]
-pub extern "C" fn llunareth_judge_storey(k: u64, storey: &[u64], members: &[Member], out: &mut [u64])
+pub extern "C" fn llunareth_judge_storey(
+    k: u64,
+    storey: &[u64],
+    members: &[Member],
+    out: &mut [u64],
+)
     ensures { λ _. ⌜ now (out .exit) ≡ put (ten (storeyReturned k (storeyBy (λ (j : ℕ). getD (now (storey .entry)) j 0)) (now (members .entry)))) (now (out .entry)) ⌝ }
 {
     let s = storey_given(storey);
     let r = judge_storey(k, s, members);
     put_storey(out, r);
+}
+
+fn header_given(values: &[u64]) -> Header
+    ensures { λ r. ⌜ r ≡ headerBy (λ (j : ℕ). getD (now (values .entry)) j 0) ⌝ }
+{
+    let vs = values_of(values);
+    header_of(vs)
+}
+
+// Refusal, line, tilted, Risky, and a Risky storey's place.
+fn building_words(r: BuildingJudgment) -> [u64; 10]
+    ensures { λ w. ⌜ w ≡ ten (returnedBuilding (r .answer)) ⌝ }
+{
+    let a = r.answer;
+    match a {
+        BuildingAnswer::Judged(f) => [0, 0, flag(f.tilted), flag(f.risky), f.place, 0, 0, 0, 0, 0],
+        BuildingAnswer::Refused(n) => [n, 0, 0, 0, 0, 0, 0, 0, 0, 0],
+    }
+}
+
+fn put_building(out: &mut [u64], r: BuildingJudgment)
+    ensures { λ _. ⌜ now (out .exit) ≡ put (ten (returnedBuilding (r .answer))) (now (out .entry)) ⌝ }
+{
+    put_ten(out, building_words(r));
+}
+
+// A building: its header, given by its six numbers, its storeys, and the members of all of them in survey order.
+#[no_mangle]
+pub extern "C" fn llunareth_judge_building(
+    header: &[u64],
+    storeys: &[Storey],
+    members: &[Member],
+    out: &mut [u64],
+)
+    ensures { λ _. ⌜ BuildingWritten (headerBy (λ (j : ℕ). getD (now (header .entry)) j 0)) (now (storeys .entry)) (now (members .entry)) (now (out .entry)) (now (out .exit)) ⌝ }
+{
+    let h = header_given(header);
+    let r = judge_building(h, storeys, members);
+    put_building(out, r);
 }

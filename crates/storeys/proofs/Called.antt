@@ -76,8 +76,8 @@ module _ (k : ℕ) (s : Storey) (rows : List Member) (first : ℕ) (h : first �
   all-three =
       in-order-last (countFault (s .count) (length rows) ∷ knowledgeFault k ∷ storeyFault s ∷ membersFault rows ∷ []) (shearFault p)
       ∙ ap (λ (x : ℕ). pick (eqb x 0) (shearFault p) x)
-        (in-order-last (countFault (s .count) (length rows) ∷ knowledgeFault k ∷ storeyFault s ∷ []) (membersFault rows)
-        ∙ ap (λ (x : ℕ). pick (eqb x 0) (membersFault rows) x) (sym h))
+      (in-order-last (countFault (s .count) (length rows) ∷ knowledgeFault k ∷ storeyFault s ∷ []) (membersFault rows)
+      ∙ ap (λ (x : ℕ). pick (eqb x 0) (membersFault rows) x) (sym h))
 
   refused-is : (n : ℕ) → storeyCallFault publishedRules k s rows ≡ n → (n ≡ 0 → ⊥) → Refused n ≡ storeyAnswer k s rows
   unfolding storeyAnswerBy

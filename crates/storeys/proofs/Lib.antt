@@ -15,7 +15,5 @@ pub mod Called
 pub mod Says
 pub mod Structs
 pub mod Verdicts
-pub mod BuildingStructs
-pub mod BuildingSays
 pub mod BuildingRows
 pub mod BuildingAnswers

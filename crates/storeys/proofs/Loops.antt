@@ -199,5 +199,5 @@ module _ (k : ℕ) (met : Bool) (rows : List Member) where
       let b : t .over ≡ overShear publishedRules k met rows = omega (arith, u .shears, total-end (shearIfOver publishedRules k met) noMember rows j h) in
       let c : t .some ≡ someOver publishedRules k met rows = sym (or-false (t .some)) ∙ ap (λ (x : Bool). t .some || x) (sym (some-end (over publishedRules k met) rows j h)) ∙ u .anyone in
       let d : t .damage ≡ weighed 0 rows =
-          omega (arith, u .damage, total-end (λ m. flag (eqb (m .damage) 1)) noMember rows j h, total-end (λ m. flag (eqb (m .damage) 2)) noMember rows j h, total-end (λ m. flag (eqb (m .damage) 3)) noMember rows j h, total-end (λ m. flag (eqb (m .damage) 4)) noMember rows j h) in
+      omega (arith, u .damage, total-end (λ m. flag (eqb (m .damage) 1)) noMember rows j h, total-end (λ m. flag (eqb (m .damage) 2)) noMember rows j h, total-end (λ m. flag (eqb (m .damage) 3)) noMember rows j h, total-end (λ m. flag (eqb (m .damage) 4)) noMember rows j h) in
       tally-is t _ _ _ _ a b c d

@@ -7,20 +7,22 @@ use mathlib.Core.Path.{_≡_}
 use lib.Dec.{eqb}
 use lib.ListN.{length}
 use mir.Syntax.{w64}
-use borrow.Fn.Kinds.{rNum}
+use borrow.Fn.Kinds.{rNum, rBool}
 use borrow.Kind.Num.{pNum}
 use borrow.Kind.Bool.{pBool}
 use borrow.Kind.ShrSlice.{pShrS}
-use Rattle.reading.specs.First.{pick, any}
+use Rattle.reading.specs.First.{pick, any, first}
 use Rattle.reading.specs.Records.{storeyFault}
 use Rattle.members.specs.Finding.{knowledge}
 use Rattle.storeys.specs.Totals.{total}
 use Rattle.storeys.specs.Storey.{publishedRules, wallShear, memberAt, membersFault, storeyFinding, storeyAnswer, returnedStorey, storeyReturned}
 use Rattle.storeys.specs.Tally.{tallyOf, Rows}
+use Rattle.storeys.specs.Building.{storeyAt, storeyRowsFault, Answers as Answered, placeIn, returnedBuilding, buildingReturned}
+use Rattle.storeys.specs.Verdict.{verdictOf, Counted, GoodRows}
 use Rattle.walk.proofs.Fn.{Plain}
 use Rattle.walk.proofs.Slice.{R, taken, made}
-use Rattle.reading.proofs.Structs.{member, storey}
-use Rattle.storeys.proofs.Structs.{tally as tallied, storeyfinding, storeyjudgment}
+use Rattle.reading.proofs.Structs.{header, member, storey}
+use Rattle.storeys.proofs.Structs.{tally as tallied, storeyfinding, storeyjudgment, verdict, buildingjudgment}
 
 abbrev pub repeat-fault : Plain {n = 1} (pShrS (R member) 0 tt ∷ pNum w64 ∷ pNum w64 ∷ []) (rNum w64)
 repeat-fault = record {
@@ -58,5 +60,38 @@ judge-storey = record {
   ensures = λ κs a z e.
       (z .answer ≡ storeyAnswer (a .0) (a .1 .0) (a .1 .1 .0 .now))
       ∷ (returnedStorey (z .answer) ≡ storeyReturned (a .0) (a .1 .0) (a .1 .1 .0 .now))
+      ∷ [];
+}
+
+abbrev pub counts-fit : Plain {n = 1} (pShrS (R storey) 0 tt ∷ pNum w64 ∷ []) rBool
+counts-fit = record {
+  requires = λ κs a. [];
+  ensures = λ κs a z e. (z ≡ eqb (total (λ s. s .count) (a .0 .now)) (a .1 .0)) ∷ [];
+}
+
+abbrev pub storey-repeat-fault : Plain {n = 1} (pShrS (R storey) 0 tt ∷ pNum w64 ∷ pNum w64 ∷ []) (rNum w64)
+storey-repeat-fault = record {
+  requires = λ κs a. (a .1 .0 ≤ length (a .0 .now)) ∷ [];
+  ensures = λ κs a z e. (z ≡ pick (any (λ (e : ℕ). eqb (storeyAt (a .0 .now) e .number) (a .1 .1 .0)) (a .1 .0)) 5 0) ∷ [];
+}
+
+abbrev pub rows-fault : Plain {n = 2} (pShrS (R storey) 0 tt ∷ pShrS (R member) 1 tt ∷ []) (rNum w64)
+rows-fault = record {
+  requires = λ κs a. (Counted (a .0 .now) (a .1 .0 .now)) ∷ [];
+  ensures = λ κs a z e. (z ≡ first 0 (λ n. n) (storeyRowsFault (a .0 .now) (a .1 .0 .now)) (length (a .0 .now))) ∷ [];
+}
+
+abbrev pub storeys-verdict : Plain {n = 2} (pNum w64 ∷ pShrS (R storey) 0 tt ∷ pShrS (R member) 1 tt ∷ []) (made verdict)
+storeys-verdict = record {
+  requires = λ κs a. (GoodRows (a .0) (a .1 .0 .now) (a .1 .1 .0 .now)) ∷ [];
+  ensures = λ κs a z e. (z ≡ verdictOf (a .0) (a .1 .0 .now) (a .1 .1 .0 .now) (length (a .1 .0 .now))) ∷ [];
+}
+
+abbrev pub judge-building : Plain {n = 2} (taken header ∷ pShrS (R storey) 0 tt ∷ pShrS (R member) 1 tt ∷ []) (made buildingjudgment)
+judge-building = record {
+  requires = λ κs a. [];
+  ensures = λ κs a z e.
+      Answered publishedRules (a .0) (a .1 .0 .now) (a .1 .1 .0 .now) (z .answer)
+      ∷ (returnedBuilding (z .answer) ≡ buildingReturned (a .0) (a .1 .0 .now) (a .1 .1 .0 .now) (placeIn (z .answer)))
       ∷ [];
 }

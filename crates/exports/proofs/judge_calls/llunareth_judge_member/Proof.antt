@@ -43,7 +43,7 @@ same-length c = search needs
 
 -- src/judge_calls.rt:29:1
 returns : tie.Need-returns
-returns c = 
+returns c =
     let m = c .before .before .before .before .before .before .member-of .ensures ∙ member-same (λ (j : ℕ). getD (c .before .before .before .before .before .before .before .values-of .result) j 0) (λ (j : ℕ). getD (c .before .before .before .before .before .before .before .before .before .before .args .values .now) j 0) (c .before .before .before .before .before .before .before .values-of .ensures) in
     c .before .before .put-ten .ensures
     ∙ ap (λ (w : List ℕ). put w (c .before .before .before .before .before .before .before .before .before .before .args .out .now)) (c .before .before .before .member-words .ensures)

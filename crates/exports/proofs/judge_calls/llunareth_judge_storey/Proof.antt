@@ -88,9 +88,25 @@ body κs qs bs =
     ret tt))
 
 answers : Answers Says.llunareth-judge-storey K 1 Code.function body
-answers κs qs a good pre bs = (λ _. tt, λ s. (λ _. tt, λ g. λ γ. (refl, (λ _. tt, λ p. (refl, λ back.
-    ((tt, (refl, (refl, (fix-len (a .1 .1 .1 .0 .ptr) (a .1 .1 .1 .0 .name) (p .2 .0) (a .1 .1 .1 .0 .now) back, tt)))),
-    p .5 ∙ ap (λ (r : Returned). put (ten r) (a .1 .1 .1 .0 .now)) (g .5 .1 ∙ ap (λ (x : Storey). storeyReturned (a .0) x (a .1 .1 .0 .now)) (s .5))))))))
+answers κs qs a good pre bs = (
+  λ _. tt,
+  λ s. (
+    λ _. tt,
+    λ g. λ γ. (
+      refl,
+      (
+        λ _. tt,
+        λ p. (
+          refl,
+          λ back. (
+            (tt, (refl, (refl, (fix-len (a .1 .1 .1 .0 .ptr) (a .1 .1 .1 .0 .name) (p .2 .0) (a .1 .1 .1 .0 .now) back, tt)))),
+            p .5 ∙ ap (λ (r : Returned). put (ten r) (a .1 .1 .1 .0 .now)) (g .5 .1 ∙ ap (λ (x : Storey). storeyReturned (a .0) x (a .1 .1 .0 .now)) (s .5)),
+          ),
+        ),
+      ),
+    ),
+  ),
+)
 
 pub llunareth-judge-storey-spec : {M : Type 1} → statement M
 unfolding Code.routine tablesOf

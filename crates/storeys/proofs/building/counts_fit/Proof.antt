@@ -19,7 +19,7 @@ use Rattle.walk.proofs.Walk.{S, _⨾_, _▸_, _◂_, told, _then_, at, from, se
 use Rattle.walk.proofs.Slice.{R, kept, full, here, sh-ptr, sh-len, val-at, elem-out}
 use Rattle.walk.proofs.Fn.{Callee, Knows, Body, Answers, entry, call, meets}
 use Rattle.reading.proofs.Structs.{storey}
-use Rattle.storeys.proofs.BuildingSays as Says
+use Rattle.storeys.proofs.Says as Says
 use Rattle.storeys.proofs.row.storey_count.Met as storey-count-met
 use Rattle.storeys.proofs.row.storey_count.Symbol as storey-count-symbol
 use Rattle.storeys.proofs.row.storey_count.Kinds as storey-count-kinds

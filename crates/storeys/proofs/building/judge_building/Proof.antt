@@ -1,7 +1,7 @@
 use lib.Dec.{eqb}
 use borrow.Author.Tests.{eqb-true, eqb-false, not-true, not-false}
 use Rattle.storeys.proofs.BuildingAnswers.{refused-at-once, counted, refused-rows, good-rows, judged-rows}
-use Rattle.storeys.proofs.BuildingStructs.{header, verdict, buildingjudgment}
+use Rattle.storeys.proofs.Structs.{verdict, buildingjudgment}
 use mathlib.Core.List.{[], _∷_}
 use mathlib.Core.Path.{refl}
 use contract.Lifetimes.{Lfts, Shares}
@@ -15,10 +15,10 @@ use borrow.Table.Rows.{sc-here}
 use Rattle.walk.proofs.Walk.{S, _⨾_, _▸_, told, at, from, set, op2, lit, cp, fld, sc, gone, old, forget, when, ret, u64}
 use Rattle.walk.proofs.Slice.{R, kept, full, here, sh-len, val-at, sh-at, sh-spares, sh-reads}
 use Rattle.walk.proofs.Fn.{Callee, Knows, Body, Answers, entry, callee, knows, call, meets}
-use Rattle.reading.proofs.Structs.{member, storey}
+use Rattle.reading.proofs.Structs.{header, member, storey}
 use Rattle.storeys.proofs.building.counts_fit.Met as counts-fit-met
 use Rattle.storeys.proofs.building.counts_fit.Symbol as counts-fit-symbol
-use Rattle.storeys.proofs.BuildingSays as Says
+use Rattle.storeys.proofs.Says as Says
 use Rattle.storeys.proofs.verdict.header_call_fault.Met as header-call-fault-met
 use Rattle.storeys.proofs.verdict.header_call_fault.Symbol as header-call-fault-symbol
 use Rattle.storeys.proofs.verdict.header_call_fault.Kinds as header-call-fault-kinds

@@ -29,7 +29,7 @@ use Rattle.storeys.proofs.row.storey_number.Kinds as storey-number-kind
 use Rattle.storeys.proofs.row.storey_number.Reads as storey-number-reads
 use Rattle.storeys.proofs.building.storey_repeat_fault.Met as storey-repeat-fault-met
 use Rattle.storeys.proofs.building.storey_repeat_fault.Symbol as storey-repeat-fault-symbol
-use Rattle.storeys.proofs.BuildingSays as Says
+use Rattle.storeys.proofs.Says as Says
 use Rattle.storeys.proofs.row.storey_row_fault.Met as storey-row-fault-met
 use Rattle.storeys.proofs.row.storey_row_fault.Symbol as storey-row-fault-symbol
 use Rattle.storeys.proofs.row.storey_row_fault.Kinds as storey-row-fault-kinds

@@ -19,7 +19,7 @@ use Rattle.walk.proofs.Walk.{S, _⨾_, _▸_, _◂_, told, at, from, set, op2, 
 use Rattle.walk.proofs.Slice.{R, kept, full, here, sh-ptr, val-at, elem-out}
 use Rattle.walk.proofs.Fn.{Callee, Knows, Body, Answers, entry, call, meets}
 use Rattle.reading.proofs.Structs.{storey}
-use Rattle.storeys.proofs.BuildingSays as Says
+use Rattle.storeys.proofs.Says as Says
 use Rattle.storeys.proofs.row.storey_number.Met as storey-number-met
 use Rattle.storeys.proofs.row.storey_number.Symbol as storey-number-symbol
 use Rattle.storeys.proofs.row.storey_number.Kinds as storey-number-kinds

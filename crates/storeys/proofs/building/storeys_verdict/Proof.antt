@@ -4,7 +4,7 @@ use borrow.Author.Tests.{ltb-true, ltb-false}
 use Rattle.storeys.specs.declared.verdict.Verdict.{Verdict}
 use Rattle.storeys.specs.Building.{noStorey, membersBefore}
 use Rattle.storeys.specs.Verdict.{verdictOf}
-use Rattle.storeys.proofs.BuildingStructs.{storeyfinding, verdict}
+use Rattle.storeys.proofs.Structs.{storeyfinding, verdict}
 use Rattle.storeys.proofs.BuildingRows.{none-before, next-before, next-within, verdict-none, verdict-all, found-due, verdict-next}
 use Prim.Native.Nat.{ℕ, _+_, _-_, _≤_}
 use mathlib.Core.List.{[], _∷_}
@@ -34,7 +34,7 @@ use Rattle.storeys.proofs.row.storey_count.Kinds as storey-count-kinds
 use Rattle.storeys.proofs.row.storey_count.Reads as storey-count-reads
 use Rattle.storeys.proofs.storey.found.Met as found-met
 use Rattle.storeys.proofs.storey.found.Symbol as found-symbol
-use Rattle.storeys.proofs.BuildingSays as Says
+use Rattle.storeys.proofs.Says as Says
 use Rattle.storeys.proofs.verdict.noted.Met as noted-met
 use Rattle.storeys.proofs.verdict.noted.Symbol as noted-symbol
 use Rattle.storeys.proofs.verdict.noted.Kinds as noted-kinds

@@ -79,10 +79,20 @@ body κs qs bs =
     ret tt))
 
 answers : Answers Says.found K 0 Code.function body
-answers κs qs a good pre bs =
-    (λ _. pre .0, λ w. (λ _. (shear-most (a .1 .0) (pre .2), rw (w .5) (walls-most (a .1 .1 .0 .now) (pre .0))), λ m. (λ _. (pre .0, pre .1), λ t.
-    (λ _. tally-small (a .1 .1 .0 .now) (pre .0) (a .1 .0) (a .0) (m .1) (t .1) (pre .2) (t .5), λ f.
-    ((tt, (tt, (refl, tt))), found-is (a .0) (a .1 .0) (a .1 .1 .0 .now) (w .1) (m .1) (t .1) (f .1) (w .5) (m .5) (t .5) (f .5))))))
+answers κs qs a good pre bs = (
+  λ _. pre .0,
+  λ w. (
+    λ _. (shear-most (a .1 .0) (pre .2), rw (w .5) (walls-most (a .1 .1 .0 .now) (pre .0))),
+    λ m. (
+      λ _. (pre .0, pre .1),
+      λ t. (
+        λ _. tally-small (a .1 .1 .0 .now) (pre .0) (a .1 .0) (a .0) (m .1) (t .1) (pre .2) (t .5),
+        λ f.
+            ((tt, (tt, (refl, tt))), found-is (a .0) (a .1 .0) (a .1 .1 .0 .now) (w .1) (m .1) (t .1) (f .1) (w .5) (m .5) (t .5) (f .5)),
+      ),
+    ),
+  ),
+)
 
 pub found-spec : {M : Type 1} → statement M
 unfolding Code.routine tablesOf

@@ -92,14 +92,32 @@ body κs qs bs =
     ret tt)))))
 
 answers : Answers Says.judge-storey K 0 Code.function body
-answers κs qs a good pre bs =
-    (λ _. tt, λ h. (tt,
-    (λ hit. (λ _. tt, λ r. ((tt, (tt, (refl, tt))), (head-refused (a .0) (a .1 .0) (a .1 .1 .0 .now) (h .1) (h .5) (r .1 .answer) (eqb-false (h .1) 0 (not-true _ hit)) (r .5)))),
-    λ miss. told (eqb-true (h .1) 0 (not-false _ miss)) λ z. (λ _. tt, λ f. (tt,
-    (λ hit. (λ _. tt, λ r. ((tt, (tt, (refl, tt))), (rows-refused (a .0) (a .1 .0) (a .1 .1 .0 .now) (h .1) (h .5) z (f .1) (f .5) (r .1 .answer) (eqb-false (f .1) 0 (not-true _ hit)) (r .5)))),
-    λ miss. told (eqb-true (f .1) 0 (not-false _ miss)) λ y.
-    (λ _. (rows-clear (a .0) (a .1 .0) (a .1 .1 .0 .now) (h .1) (h .5) z (f .1) (f .5) y, level-clear (a .0) (a .1 .0) (a .1 .1 .0 .now) (h .1) (h .5) z (f .1) (f .5), storey-clear (a .0) (a .1 .0) (a .1 .1 .0 .now) (h .1) (h .5) z (f .1) (f .5)), λ x. (λ _. tt, λ r.
-    ((tt, (tt, (refl, tt))), (judged-is (a .0) (a .1 .0) (a .1 .1 .0 .now) (h .1) (h .5) z (f .1) (f .5) y (r .1 .answer) (x .1) (x .5) (r .5)))))))))))
+answers κs qs a good pre bs = (
+  λ _. tt,
+  λ h. (
+    tt,
+    (
+      λ hit. (λ _. tt, λ r. ((tt, (tt, (refl, tt))), (head-refused (a .0) (a .1 .0) (a .1 .1 .0 .now) (h .1) (h .5) (r .1 .answer) (eqb-false (h .1) 0 (not-true _ hit)) (r .5)))),
+      λ miss. told (eqb-true (h .1) 0 (not-false _ miss)) λ z. (
+        λ _. tt,
+        λ f. (
+          tt,
+          (
+            λ hit. (λ _. tt, λ r. ((tt, (tt, (refl, tt))), (rows-refused (a .0) (a .1 .0) (a .1 .1 .0 .now) (h .1) (h .5) z (f .1) (f .5) (r .1 .answer) (eqb-false (f .1) 0 (not-true _ hit)) (r .5)))),
+            λ miss. told (eqb-true (f .1) 0 (not-false _ miss)) λ y. (
+              λ _. (rows-clear (a .0) (a .1 .0) (a .1 .1 .0 .now) (h .1) (h .5) z (f .1) (f .5) y, level-clear (a .0) (a .1 .0) (a .1 .1 .0 .now) (h .1) (h .5) z (f .1) (f .5), storey-clear (a .0) (a .1 .0) (a .1 .1 .0 .now) (h .1) (h .5) z (f .1) (f .5)),
+              λ x. (
+                λ _. tt,
+                λ r.
+                    ((tt, (tt, (refl, tt))), (judged-is (a .0) (a .1 .0) (a .1 .1 .0 .now) (h .1) (h .5) z (f .1) (f .5) y (r .1 .answer) (x .1) (x .5) (r .5))),
+              ),
+            ),
+          ),
+        ),
+      ),
+    ),
+  ),
+)
 
 pub judge-storey-spec : {M : Type 1} → statement M
 unfolding Code.routine tablesOf

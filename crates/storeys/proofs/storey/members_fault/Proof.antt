@@ -99,12 +99,37 @@ body κs qs bs =
 
 answers : Answers Says.members-fault K 0 Code.function body
 answers κs qs a good pre bs =
-    (0, refl, (omega arith, clear-none (a .0 .now))) ◂ λ vs inv. (tt,
-    (λ taken. told (ltb-true vs (length (a .0 .now)) taken) λ l.
-    (search needs, (tt, ((refl, refl, omega arith), λ _. (λ _. tt, λ n. (λ _. omega arith, λ x. (λ _. tt, λ f. (tt,
-    (λ hit. ((refl, tt), refused-here (a .0 .now) vs (n .1) (x .1) (f .1) (inv .1) (n .5) (x .5) (f .5) l (eqb-false (f .1) 0 (not-true _ hit))),
-    λ miss. (search needs, (length (a .0 .now) - (vs + 1), omega arith, (vs + 1, refl, (omega arith, clear-next (a .0 .now) vs (n .1) (x .1) (f .1) (inv .1) (n .5) (x .5) (f .5) (eqb-true (f .1) 0 (not-false _ miss))), refl))))))))))),
-    λ left. ((refl, tt), clear-all (a .0 .now) vs (inv .1) (inv .0) (ltb-false vs (length (a .0 .now)) left))))
+    (0, refl, (omega arith, clear-none (a .0 .now))) ◂ λ vs inv. (
+      tt,
+      (
+        λ taken. told (ltb-true vs (length (a .0 .now)) taken) λ l. (
+          search needs,
+          (
+            tt,
+            (
+              (refl, refl, omega arith),
+              λ _. (
+                λ _. tt,
+                λ n. (
+                  λ _. omega arith,
+                  λ x. (
+                    λ _. tt,
+                    λ f. (
+                      tt,
+                      (
+                        λ hit. ((refl, tt), refused-here (a .0 .now) vs (n .1) (x .1) (f .1) (inv .1) (n .5) (x .5) (f .5) l (eqb-false (f .1) 0 (not-true _ hit))),
+                        λ miss. (search needs, (length (a .0 .now) - (vs + 1), omega arith, (vs + 1, refl, (omega arith, clear-next (a .0 .now) vs (n .1) (x .1) (f .1) (inv .1) (n .5) (x .5) (f .5) (eqb-true (f .1) 0 (not-false _ miss))), refl))),
+                      ),
+                    ),
+                  ),
+                ),
+              ),
+            ),
+          ),
+        ),
+        λ left. ((refl, tt), clear-all (a .0 .now) vs (inv .1) (inv .0) (ltb-false vs (length (a .0 .now)) left)),
+      ),
+    )
 
 pub members-fault-spec : {M : Type 1} → statement M
 unfolding Code.routine tablesOf

@@ -72,12 +72,31 @@ body κs qs bs =
 
 answers : Answers Says.repeat-fault K 0 Code.function body
 answers κs qs a good pre bs =
-    (0, refl, (omega arith, unseen (a .0 .now) (a .1 .1 .0) (a .1 .0))) ◂ λ vs inv. (tt,
-    (λ taken. told (ltb-true vs (a .1 .0) taken) λ l.
-    (search needs, (tt, ((refl, refl, omega arith), λ _. (λ _. tt, λ g. (tt,
-    (λ hit. ((refl, (tt, (tt, tt))), seen-here (a .0 .now) (a .1 .1 .0) (a .1 .0) vs (g .1) l (g .5) hit),
-    λ miss. (search needs, (a .1 .0 - (vs + 1), omega arith, (vs + 1, refl, (omega arith, unseen-next (a .0 .now) (a .1 .1 .0) (a .1 .0) vs (g .1) (inv .1) (g .5) miss), refl))))))))),
-    λ left. ((refl, (tt, (tt, tt))), unseen-all (a .0 .now) (a .1 .1 .0) (a .1 .0) vs (inv .1) (inv .0) (ltb-false vs (a .1 .0) left))))
+    (0, refl, (omega arith, unseen (a .0 .now) (a .1 .1 .0) (a .1 .0))) ◂ λ vs inv. (
+      tt,
+      (
+        λ taken. told (ltb-true vs (a .1 .0) taken) λ l. (
+          search needs,
+          (
+            tt,
+            (
+              (refl, refl, omega arith),
+              λ _. (
+                λ _. tt,
+                λ g. (
+                  tt,
+                  (
+                    λ hit. ((refl, (tt, (tt, tt))), seen-here (a .0 .now) (a .1 .1 .0) (a .1 .0) vs (g .1) l (g .5) hit),
+                    λ miss. (search needs, (a .1 .0 - (vs + 1), omega arith, (vs + 1, refl, (omega arith, unseen-next (a .0 .now) (a .1 .1 .0) (a .1 .0) vs (g .1) (inv .1) (g .5) miss), refl))),
+                  ),
+                ),
+              ),
+            ),
+          ),
+        ),
+        λ left. ((refl, (tt, (tt, tt))), unseen-all (a .0 .now) (a .1 .1 .0) (a .1 .0) vs (inv .1) (inv .0) (ltb-false vs (a .1 .0) left)),
+      ),
+    )
 
 pub repeat-fault-spec : {M : Type 1} → statement M
 unfolding Code.routine tablesOf

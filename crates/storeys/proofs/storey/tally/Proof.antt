@@ -83,12 +83,30 @@ body κs qs bs =
     ret tt))
 
 answers : Answers Says.tally K 0 Code.function body
-answers κs qs a good pre bs = (λ _. tt, λ s.
-    ((s .1, 0), refl, (omega arith, rw (s .5) (going-none (a .1 .0) (a .1 .1 .0) (a .0 .now)))) ◂ λ vs inv. (tt,
-    (λ taken. told (ltb-true (vs .1) (length (a .0 .now)) taken) λ l.
-    (search needs, (tt, ((refl, refl, omega arith), λ _. (λ _. tally-room (a .1 .0) (a .1 .1 .0) (a .0 .now) (pre .0) (vs .0) (vs .1) (inv .1) l (pre .1), λ g.
-    (search needs, (length (a .0 .now) - (vs .1 + 1), omega arith, ((g .1, vs .1 + 1), refl, (omega arith, going-next (a .1 .0) (a .1 .1 .0) (a .0 .now) (pre .0) (vs .0) (vs .1) (inv .1) l (g .1) (g .5)), refl))))))),
-    λ left. ((refl, (tt, (tt, tt))), going-all (a .1 .0) (a .1 .1 .0) (a .0 .now) (vs .0) (vs .1) (inv .1) (ltb-false (vs .1) (length (a .0 .now)) left)))))
+answers κs qs a good pre bs = (
+  λ _. tt,
+  λ s.
+      ((s .1, 0), refl, (omega arith, rw (s .5) (going-none (a .1 .0) (a .1 .1 .0) (a .0 .now)))) ◂ λ vs inv. (
+        tt,
+        (
+          λ taken. told (ltb-true (vs .1) (length (a .0 .now)) taken) λ l. (
+            search needs,
+            (
+              tt,
+              (
+                (refl, refl, omega arith),
+                λ _. (
+                  λ _. tally-room (a .1 .0) (a .1 .1 .0) (a .0 .now) (pre .0) (vs .0) (vs .1) (inv .1) l (pre .1),
+                  λ g.
+                      (search needs, (length (a .0 .now) - (vs .1 + 1), omega arith, ((g .1, vs .1 + 1), refl, (omega arith, going-next (a .1 .0) (a .1 .1 .0) (a .0 .now) (pre .0) (vs .0) (vs .1) (inv .1) l (g .1) (g .5)), refl))),
+                ),
+              ),
+            ),
+          ),
+          λ left. ((refl, (tt, (tt, tt))), going-all (a .1 .0) (a .1 .1 .0) (a .0 .now) (vs .0) (vs .1) (inv .1) (ltb-false (vs .1) (length (a .0 .now)) left)),
+        ),
+      ),
+)
 
 pub tally-spec : {M : Type 1} → statement M
 unfolding Code.routine tablesOf

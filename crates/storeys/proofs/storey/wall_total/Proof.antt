@@ -72,12 +72,27 @@ body κs qs bs =
 
 answers : Answers Says.wall-total K 0 Code.function body
 answers κs qs a good pre bs =
-    ((0, 0), refl, (omega arith, omega arith, omega arith)) ◂ λ vs inv. (tt,
-    (λ taken. told (ltb-true (vs .1) (length (a .0 .now)) taken) λ l.
-    (search needs, (tt, ((refl, refl, omega arith), λ _. (λ _. wall-room (a .0 .now) pre (vs .1) l (vs .0) (inv .2), λ g.
-    told (wall-next (a .0 .now) pre (vs .1) l (vs .0) (g .1) (inv .1) (inv .2) (g .5)) λ n.
-    (search needs, (length (a .0 .now) - (vs .1 + 1), omega arith, ((g .1, vs .1 + 1), refl, (omega arith, n .0, n .1), refl))))))),
-    λ left. ((refl, tt), wall-all (a .0 .now) (vs .0) (vs .1) (inv .1) (ltb-false (vs .1) (length (a .0 .now)) left))))
+    ((0, 0), refl, (omega arith, omega arith, omega arith)) ◂ λ vs inv. (
+      tt,
+      (
+        λ taken. told (ltb-true (vs .1) (length (a .0 .now)) taken) λ l. (
+          search needs,
+          (
+            tt,
+            (
+              (refl, refl, omega arith),
+              λ _. (
+                λ _. wall-room (a .0 .now) pre (vs .1) l (vs .0) (inv .2),
+                λ g.
+                    told (wall-next (a .0 .now) pre (vs .1) l (vs .0) (g .1) (inv .1) (inv .2) (g .5)) λ n.
+                    (search needs, (length (a .0 .now) - (vs .1 + 1), omega arith, ((g .1, vs .1 + 1), refl, (omega arith, n .0, n .1), refl))),
+              ),
+            ),
+          ),
+        ),
+        λ left. ((refl, tt), wall-all (a .0 .now) (vs .0) (vs .1) (inv .1) (ltb-false (vs .1) (length (a .0 .now)) left)),
+      ),
+    )
 
 pub wall-total-spec : {M : Type 1} → statement M
 unfolding Code.routine tablesOf

@@ -1,0 +1,25 @@
+use mathlib.Core.Path.{ap, _∙_}
+use mathlib.Core.List.{List}
+use Prim.Native.Nat.{ℕ}
+use lib.ListN.{getD}
+use native.Mathlib.Omega.{arith}
+use Rattle.reading.proofs.Held.{header-same}
+use borrow.Author.Needs.{needs}
+use Rattle.exports.proofs.judge_calls.header_given.Statement.{statement}
+use Rattle.exports.proofs.judge_calls.header_given.Tie as tie
+use Rattle.exports.proofs.judge_calls.header_given.Reads as reads
+use Rattle.exports.proofs.judge_calls.header_given.Lts as lts
+use Rattle.exports.proofs.words.values_of.Reads as values-of-reads
+use Rattle.reading.proofs.lines.header_of.Reads as header-of-reads
+
+values-of-requires : tie.Need-values-of-requires
+values-of-requires c κs = search needs
+
+header-of-requires : tie.Need-header-of-requires
+header-of-requires c κs = search needs
+
+returns : tie.Need-returns
+returns c = c .header-of .ensures ∙ header-same (λ (j : ℕ). getD (c .before .values-of .result) j 0) (λ (j : ℕ). getD (c .before .before .before .args .values .now) j 0) (λ j h. c .before .values-of .ensures j (omega arith))
+
+pub header-given-spec : {M : Type 1} → statement M
+header-given-spec = tie.close (tie.spec values-of-requires header-of-requires returns)

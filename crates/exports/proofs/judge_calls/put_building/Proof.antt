@@ -1,0 +1,26 @@
+use mathlib.Core.Path.{ap, _∙_}
+use mathlib.Core.List.{List}
+use Prim.Native.Nat.{ℕ}
+use Rattle.exports.specs.Words.{put}
+use borrow.Author.Needs.{needs}
+use Rattle.exports.proofs.judge_calls.put_building.Statement.{statement}
+use Rattle.exports.proofs.judge_calls.put_building.Tie as tie
+use Rattle.exports.proofs.judge_calls.put_building.Reads as reads
+use Rattle.exports.proofs.judge_calls.put_building.Lts as lts
+use Rattle.exports.proofs.judge_calls.building_words.Reads as building-words-reads
+use Rattle.exports.proofs.words.put_ten.Reads as put-ten-reads
+
+building-words-requires : tie.Need-building-words-requires
+building-words-requires c κs = search needs
+
+put-ten-requires : tie.Need-put-ten-requires
+put-ten-requires c κs = search needs
+
+same-length : tie.Need-same-length
+same-length c = search needs
+
+returns : tie.Need-returns
+returns c = c .before .before .put-ten .ensures ∙ ap (λ (w : List ℕ). put w (c .before .before .before .before .before .before .args .out .now)) (c .before .before .before .building-words .ensures)
+
+pub put-building-spec : {M : Type 1} → statement M
+put-building-spec = tie.close (tie.spec building-words-requires put-ten-requires same-length returns)
