@@ -205,3 +205,40 @@ pub fn judge_building(h: &Header, storeys: &[Storey], rows: &[MemberRow]) -> Res
     assert_eq!(v[3..], [0; 5]);
     Ok(Building { tilt_above: v[0] == 1, risky: v[1] == 1, place: v[2] })
 }
+
+/// Judges a member by both programs and panics where they differ; the refusal, if it is one.
+pub fn same_member(k: u64, met: bool, m: &Member) -> Option<Refusal> {
+    let numbers = member_numbers(m)?;
+    let expected = independent::judge_member(k, met, m);
+    let n = expected.as_ref().map_or(0, |f| f.n);
+    assert_eq!(judge_member(k, met, &numbers, n), expected, "k {k}, met {met}: {m:?}");
+    expected.err()
+}
+
+/// Judges a storey by both programs and panics where they differ; the refusal, if it is one.
+pub fn same_storey(k: u64, s: &Storey, members: &[Member]) -> Option<Refusal> {
+    let rows = member_rows(members)?;
+    let expected = independent::judge_storey(k, s, members);
+    assert_eq!(judge_storey(k, s, &rows), expected, "k {k}, {s:?}, {members:?}");
+    expected.err()
+}
+
+/// Judges a building by both programs and panics where they differ; the refusal, if it is one.
+pub fn same_building(survey: &Survey) -> Option<Refusal> {
+    let rows = member_rows(&survey.members)?;
+    let proved = judge_building(&survey.header, &survey.storeys, &rows);
+    match independent::judge_building(&survey.header, &survey.storeys, &survey.members) {
+        Err(refusal) => {
+            assert_eq!(proved, Err(refusal), "{survey:?}");
+            Some(refusal)
+        }
+        Ok(expected) => {
+            let found = proved.expect("accepted by the independent program");
+            assert_eq!((found.tilt_above, found.risky), (expected.tilt_above, expected.risky), "{survey:?}");
+            let places = expected.risky_places;
+            let named = if places.is_empty() { found.place == 0 } else { places.contains(&found.place) };
+            assert!(named, "place {} of {places:?}: {survey:?}", found.place);
+            None
+        }
+    }
+}

@@ -1,20 +1,47 @@
-//! Compares the proved library with the independent program on generated files: compare SEED COUNT
-use generator::{any_file, lent_rows, Rng};
+//! Compares the proved library with the independent program on generated files and records: compare SEED COUNT
+use compare::{same_building, same_member, same_storey};
+use generator::{any_file, edge_member_for, lent_rows, valid_survey, wild_member, wild_survey, Rng};
+use independent::Survey;
 
-fn main() {
-    let mut args = std::env::args().skip(1).map(|a| a.parse::<u64>().expect("a number"));
-    let (seed, count) = (args.next().unwrap_or(1), args.next().unwrap_or(10_000));
-    let mut rng = Rng::new(seed);
+/// The files on which the reading calls differ.
+fn compare_files(rng: &mut Rng, count: u64) -> u64 {
     let mut differences = 0;
     for _ in 0..count {
-        let bytes = any_file(&mut rng);
-        let (storeys, members) = lent_rows(&mut rng, &bytes);
+        let bytes = any_file(rng);
+        let (storeys, members) = lent_rows(rng, &bytes);
         if compare::read(&bytes, storeys, members) != independent::read(&bytes, storeys, members) {
             differences += 1;
             println!("differs, {storeys} and {members} rows:\n{}", String::from_utf8_lossy(&bytes));
         }
     }
-    println!("seed {seed}: {count} files, {differences} differences");
+    differences
+}
+
+/// A survey through the calls on a building and on each of its storeys whose members are there.
+fn compare_survey(survey: &Survey) {
+    same_building(survey);
+    let mut rest = &survey.members[..];
+    for s in &survey.storeys {
+        let (own, after) = rest.split_at((s.member_count as usize).min(rest.len()));
+        rest = after;
+        same_storey(survey.header.knowledge, s, own);
+    }
+}
+
+fn main() {
+    let mut args = std::env::args().skip(1).map(|a| a.parse::<u64>().expect("a number"));
+    let (seed, count) = (args.next().unwrap_or(1), args.next().unwrap_or(10_000));
+    let mut rng = Rng::new(seed);
+    let differences = compare_files(&mut rng, count);
+    for _ in 0..count {
+        let k = rng.pick(&[90, 100]);
+        let met = rng.chance(50);
+        same_member(k, met, &edge_member_for(&mut rng, k));
+        same_member(k, met, &wild_member(&mut rng));
+        compare_survey(&valid_survey(&mut rng));
+        compare_survey(&wild_survey(&mut rng));
+    }
+    println!("seed {seed}: {count} files, {differences} differences; members, storeys and buildings agree");
     if differences > 0 {
         std::process::exit(1);
     }

@@ -1,17 +1,8 @@
-//! The calls on a member and a storey against the independent program.
-use compare::{judge_building, judge_member, judge_storey, member_numbers, member_rows};
+//! The calls on a member, a storey and a building against the independent program.
+use compare::{same_building, same_member, same_storey};
 use generator::{edge_member_for, valid_survey, wild_member, wild_storey, wild_survey, Rng};
-use independent::{Member, Refusal, Storey, Survey};
 
 const SEED: u64 = 20_260_116;
-
-fn same_member(k: u64, met: bool, m: &Member) -> Option<Refusal> {
-    let numbers = member_numbers(m)?;
-    let expected = independent::judge_member(k, met, m);
-    let n = expected.as_ref().map_or(0, |f| f.n);
-    assert_eq!(judge_member(k, met, &numbers, n), expected, "k {k}, met {met}: {m:?}");
-    expected.err()
-}
 
 #[test]
 fn members_at_every_edge() {
@@ -42,13 +33,6 @@ fn wild_members_and_levels() {
         }
     }
     assert!(seen[3] > 500 && seen[4] > 50, "{seen:?}");
-}
-
-fn same_storey(k: u64, s: &Storey, members: &[Member]) -> Option<Refusal> {
-    let rows = member_rows(members)?;
-    let expected = independent::judge_storey(k, s, members);
-    assert_eq!(judge_storey(k, s, &rows), expected, "k {k}, {s:?}, {members:?}");
-    expected.err()
 }
 
 #[test]
@@ -87,25 +71,6 @@ fn wild_storeys() {
         }
     }
     assert!([1, 3, 4, 5].iter().all(|&n| seen[n] > 20), "refusals 1, 3, 4 and 5 come up: {seen:?}");
-}
-
-fn same_building(survey: &Survey) -> Option<Refusal> {
-    let rows = member_rows(&survey.members)?;
-    let proved = judge_building(&survey.header, &survey.storeys, &rows);
-    match independent::judge_building(&survey.header, &survey.storeys, &survey.members) {
-        Err(refusal) => {
-            assert_eq!(proved, Err(refusal), "{survey:?}");
-            Some(refusal)
-        }
-        Ok(expected) => {
-            let found = proved.expect("accepted by the independent program");
-            assert_eq!((found.tilt_above, found.risky), (expected.tilt_above, expected.risky), "{survey:?}");
-            let places = expected.risky_places;
-            let named = if places.is_empty() { found.place == 0 } else { places.contains(&found.place) };
-            assert!(named, "place {} of {places:?}: {survey:?}", found.place);
-            None
-        }
-    }
 }
 
 #[test]
