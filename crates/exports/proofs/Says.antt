@@ -1,8 +1,7 @@
 -- The contracts of the functions over rows, for their walks. Each is checked against the function's own clauses where the function is proved.
 use mathlib.Core.List.{[], _∷_}
 use mathlib.Core.Path.{_≡_}
-use lib.ListN.{length, getD}
-use Prim.Native.Nat.{ℕ}
+use lib.ListN.{length}
 use mir.Syntax.{w8, w64}
 use denote.RattleType.{RattleType}
 use borrow.Fn.Kinds.{rUnit}
@@ -17,7 +16,7 @@ use Rattle.walk.proofs.Slice.{R}
 use Rattle.reading.proofs.Structs.{member, storey}
 use Rattle.reading.specs.Lines.{headerBy, storeyBy}
 use Rattle.storeys.specs.Storey.{storeyReturned}
-use Rattle.exports.specs.Words.{words as wordsOf, put, ten, BuildingWritten}
+use Rattle.exports.specs.Words.{words as wordsOf, handed, put, ten, BuildingWritten}
 
 abbrev pub bytes : RattleType
 bytes = rtF (fInt w8)
@@ -39,12 +38,12 @@ abbrev pub llunareth-judge-storey : Plain {n = 3} (pNum w64 ∷ pShrS words 0 tt
 llunareth-judge-storey = record {
   requires = λ κs a. [];
   ensures = λ κs a z e.
-      (e .1 .1 .1 .0 .now ≡ put (ten (storeyReturned (a .0) (storeyBy (λ (j : ℕ). getD (a .1 .0 .now) j 0)) (a .1 .1 .0 .now))) (a .1 .1 .1 .0 .now)) ∷ [];
+      (e .1 .1 .1 .0 .now ≡ put (ten (storeyReturned (a .0) (storeyBy (handed (a .1 .0 .now))) (a .1 .1 .0 .now))) (a .1 .1 .1 .0 .now)) ∷ [];
 }
 
 abbrev pub llunareth-judge-building : Plain {n = 4} (pShrS words 0 tt ∷ pShrS (R storey) 1 tt ∷ pShrS (R member) 2 tt ∷ pMutS words 3 tt ∷ []) rUnit
 llunareth-judge-building = record {
   requires = λ κs a. [];
   ensures = λ κs a z e.
-      BuildingWritten (headerBy (λ (j : ℕ). getD (a .0 .now) j 0)) (a .1 .0 .now) (a .1 .1 .0 .now) (a .1 .1 .1 .0 .now) (e .1 .1 .1 .0 .now) ∷ [];
+      BuildingWritten (headerBy (handed (a .0 .now))) (a .1 .0 .now) (a .1 .1 .0 .now) (a .1 .1 .1 .0 .now) (e .1 .1 .1 .0 .now) ∷ [];
 }

@@ -3,7 +3,7 @@ use Prim.Native.Nat.{ℕ}
 use mathlib.Core.List.{List, [], _∷_, _++_}
 use mathlib.Core.Path.{_≡_}
 use lib.Dec.{leb}
-use lib.ListN.{length, take, drop}
+use lib.ListN.{length, take, drop, getD}
 use Rattle.reading.specs.First.{pick}
 use Rattle.members.specs.Finding.{Returned}
 use Rattle.reading.specs.Answer.{Told, filled, refusal}
@@ -37,6 +37,14 @@ put ws buffer = pick (leb (length ws) (length buffer)) (ws ++ drop (length ws) b
 -- an answer on records as ten numbers: refusal and line, the values, and zeros
 abbrev pub ten : Returned → List ℕ
 ten r = r .refusal ∷ r .line ∷ take 8 (r .values ++ (0 ∷ 0 ∷ 0 ∷ 0 ∷ 0 ∷ 0 ∷ 0 ∷ 0 ∷ []))
+
+-- "No field may be missing": where a record is handed in as numbers, one that is not given stands as a number outside every range
+abbrev pub missing : ℕ
+missing = 18_446_744_073_709_551_615
+
+-- number j, counted from 0, of a record handed in
+abbrev pub handed : List ℕ → ℕ → ℕ
+handed values j = getD values j missing
 
 -- what the call on a building leaves in a buffer: the ten numbers of an answer that the paper gives
 pub record BuildingWritten (h : Header) (ss : List Storey) (ms : List Member) (before after : List ℕ) : Type 0 where

@@ -1,12 +1,11 @@
-// The calls on a member, a storey and a building.
+// The calls on a member, a storey and a building. A record handed in as numbers has them in the order of its line, N_D and N_K counted from
+// -1,000,000; a number that is not given is outside every range.
 ghost use mathlib.Core.Path.{_≡_};
-ghost use Prim.Native.Nat.{ℕ};
-ghost use lib.ListN.{getD};
 ghost use Rattle.reading.specs.Lines.{headerBy, memberBy, storeyBy};
 ghost use Rattle.storeys.specs.Storey.{returnedStorey, storeyReturned};
 ghost use Rattle.members.specs.Finding.{returned, memberReturned};
 ghost use Rattle.storeys.specs.Building.{returnedBuilding};
-ghost use Rattle.exports.specs.Words.{put, ten, BuildingWritten};
+ghost use Rattle.exports.specs.Words.{handed, put, ten, BuildingWritten};
 use crate::words::flag;
 use crate::words::put_ten;
 use crate::words::values_of;
@@ -52,7 +51,7 @@ fn member_words(a: MemberAnswer) -> [u64; 10]
 // A member, given by its 26 numbers, judged with k and whether its storey meets the 0.40 condition.
 #[no_mangle]
 pub extern "C" fn llunareth_judge_member(k: u64, met: bool, values: &[u64], out: &mut [u64])
-    ensures { λ _. ⌜ now (out .exit) ≡ put (ten (memberReturned k met (memberBy (λ (j : ℕ). getD (now (values .entry)) j 0)))) (now (out .entry)) ⌝ }
+    ensures { λ _. ⌜ now (out .exit) ≡ put (ten (memberReturned k met (memberBy (handed (now (values .entry)))))) (now (out .entry)) ⌝ }
 {
     let vs = values_of(values);
     let a = judge_member(k, met, member_of(vs));
@@ -60,7 +59,7 @@ pub extern "C" fn llunareth_judge_member(k: u64, met: bool, values: &[u64], out:
 }
 
 fn storey_given(values: &[u64]) -> Storey
-    ensures { λ r. ⌜ r ≡ storeyBy (λ (j : ℕ). getD (now (values .entry)) j 0) ⌝ }
+    ensures { λ r. ⌜ r ≡ storeyBy (handed (now (values .entry))) ⌝ }
 {
     let vs = values_of(values);
     storey_of(vs)
@@ -102,7 +101,7 @@ pub extern "C" fn llunareth_judge_storey(
     members: &[Member],
     out: &mut [u64],
 )
-    ensures { λ _. ⌜ now (out .exit) ≡ put (ten (storeyReturned k (storeyBy (λ (j : ℕ). getD (now (storey .entry)) j 0)) (now (members .entry)))) (now (out .entry)) ⌝ }
+    ensures { λ _. ⌜ now (out .exit) ≡ put (ten (storeyReturned k (storeyBy (handed (now (storey .entry)))) (now (members .entry)))) (now (out .entry)) ⌝ }
 {
     let s = storey_given(storey);
     let r = judge_storey(k, s, members);
@@ -110,7 +109,7 @@ pub extern "C" fn llunareth_judge_storey(
 }
 
 fn header_given(values: &[u64]) -> Header
-    ensures { λ r. ⌜ r ≡ headerBy (λ (j : ℕ). getD (now (values .entry)) j 0) ⌝ }
+    ensures { λ r. ⌜ r ≡ headerBy (handed (now (values .entry))) ⌝ }
 {
     let vs = values_of(values);
     header_of(vs)
@@ -141,7 +140,7 @@ pub extern "C" fn llunareth_judge_building(
     members: &[Member],
     out: &mut [u64],
 )
-    ensures { λ _. ⌜ BuildingWritten (headerBy (λ (j : ℕ). getD (now (header .entry)) j 0)) (now (storeys .entry)) (now (members .entry)) (now (out .entry)) (now (out .exit)) ⌝ }
+    ensures { λ _. ⌜ BuildingWritten (headerBy (handed (now (header .entry)))) (now (storeys .entry)) (now (members .entry)) (now (out .entry)) (now (out .exit)) ⌝ }
 {
     let h = header_given(header);
     let r = judge_building(h, storeys, members);

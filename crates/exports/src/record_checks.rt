@@ -1,14 +1,14 @@
-// The checks of one record, given by its numbers in the order of its line; a number that is not given is 0.
+// The checks of one record, given by its numbers in the order of its line, N_D and N_K counted from -1,000,000; a number that is not given is
+// outside every range.
 ghost use mathlib.Core.Path.{_≡_};
-ghost use Prim.Native.Nat.{ℕ};
-ghost use lib.ListN.{getD};
 ghost use Rattle.reading.specs.Records.{headerFault, storeyFault, memberFault};
 ghost use Rattle.reading.specs.Lines.{headerBy, storeyBy, memberBy};
+ghost use Rattle.exports.specs.Words.{handed};
 use crate::words::values_of;
 
 #[no_mangle]
 pub extern "C" fn llunareth_header_fault(values: &[u64]) -> u64
-    ensures { λ r. ⌜ r ≡ headerFault (headerBy (λ (j : ℕ). getD (now (values .entry)) j 0)) ⌝ }
+    ensures { λ r. ⌜ r ≡ headerFault (headerBy (handed (now (values .entry)))) ⌝ }
 {
     let vs = values_of(values);
     reading::ranges::header_fault(reading::lines::header_of(vs))
@@ -16,7 +16,7 @@ pub extern "C" fn llunareth_header_fault(values: &[u64]) -> u64
 
 #[no_mangle]
 pub extern "C" fn llunareth_storey_fault(values: &[u64]) -> u64
-    ensures { λ r. ⌜ r ≡ storeyFault (storeyBy (λ (j : ℕ). getD (now (values .entry)) j 0)) ⌝ }
+    ensures { λ r. ⌜ r ≡ storeyFault (storeyBy (handed (now (values .entry)))) ⌝ }
 {
     let vs = values_of(values);
     reading::ranges::storey_fault(reading::lines::storey_of(vs))
@@ -24,7 +24,7 @@ pub extern "C" fn llunareth_storey_fault(values: &[u64]) -> u64
 
 #[no_mangle]
 pub extern "C" fn llunareth_member_fault(values: &[u64]) -> u64
-    ensures { λ r. ⌜ r ≡ memberFault (memberBy (λ (j : ℕ). getD (now (values .entry)) j 0)) ⌝ }
+    ensures { λ r. ⌜ r ≡ memberFault (memberBy (handed (now (values .entry)))) ⌝ }
 {
     let vs = values_of(values);
     reading::ranges::member_fault(reading::lines::member_of(vs))

@@ -2,7 +2,7 @@
 ghost use mathlib.Core.Path.{_≡_};
 ghost use Prim.Native.Nat.{ℕ, _<_};
 ghost use lib.ListN.{getD};
-ghost use Rattle.exports.specs.Words.{put};
+ghost use Rattle.exports.specs.Words.{handed, put};
 ghost use Rattle.members.specs.Finding.{flag as flagOf};
 
 // Writes ten numbers to the front of a buffer that holds them, and else nothing.
@@ -19,11 +19,11 @@ pub(crate) fn put_ten(out: &mut [u64], w: [u64; 10])
     }
 }
 
-// The first 26 numbers of a slice; a number that is not given is 0.
+// The first 26 numbers of a slice; a number that is not given is outside every range.
 pub(crate) fn values_of(values: &[u64]) -> [u64; 26]
-    ensures { λ r. ⌜ ((j : ℕ) → j < 26 → getD r j 0 ≡ getD (now (values .entry)) j 0) ⌝ }
+    ensures { λ r. ⌜ ((j : ℕ) → j < 26 → getD r j 0 ≡ handed (now (values .entry)) j) ⌝ }
 {
-    let mut vs = [0u64; 26];
+    let mut vs = [18_446_744_073_709_551_615u64; 26];
     let mut j = 0;
     while j < 26 {
         if values.len() <= j {

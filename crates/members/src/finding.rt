@@ -86,7 +86,7 @@ fn ratios(m: Member) -> Ratios
     }
 }
 
-// The m test is dropped for a stiff wall in a storey that meets the 0.40 condition.
+// The m test is dropped for a wall of little drift and shear in a storey that meets the 0.40 condition.
 fn m_dropped(k: u64, met: bool, m: Member) -> bool
     requires { ⌜ (k ≤ 100) × Valid m ⌝ }
     ensures { λ r. ⌜ r ≡ mDropped k met m ⌝ }

@@ -168,8 +168,10 @@ const PUBLISHED: LimitSet = LimitSet {
     },
 };
 
-// The axial ratios per member at which the allowed share of a storey begins to fall and is 0; they stand on the grid of `Ratio`.
-pub const SHARE_ENDS: Two = Two {
-    r1: 1_000,
-    r2: 6_500,
-};
+// The axial ratios per member at which the allowed share of a storey begins to fall and is 0, and 20 times the way between them; they stand on
+// the grid of `Ratio`.
+pub const SHARE_FROM: u64 = 1_000;
+
+pub const SHARE_TO: u64 = 6_500;
+
+pub const SHARE_FALL: u64 = 110_000;

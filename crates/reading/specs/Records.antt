@@ -43,7 +43,8 @@ headerRanges ns =
 abbrev pub storeyRanges : List Allowed
 storeyRanges = between 1 9_999_999 ∷ between 1 9_999_999 ∷ between 1 200 ∷ []
 
--- "M": fields 1 to 26
+-- "M": fields 1 to 26. 1 number; 2 long side, 3 short side; 4 A_c; 5 f_cm, 6 f_ctm, 7 f_yw; 8 d; 9 H_w; 10 s; 11 b_k; 12 A_sh; 13 hooks, 14 boundary zone,
+-- 15 strengthened; 16 factor; 17 damage kind; 18 N_D, 19 N_K; 20 M_e, 21 M_p; 22 V_e, 23 V_r; 24 V; 25 rotation; 26 drift
 abbrev pub memberRanges : List Allowed
 memberRanges =
     between 1 9_999_999

@@ -4,7 +4,7 @@ ghost use Prim.Native.Nat.{_≤_};
 ghost use Rattle.reading.specs.Answer.{numberOfRefusal};
 
 pub enum Refusal {
-    // 1: a line not of the tag and length expected, or absent; in lent rows, a count that is not the rows given
+    // 1: a line not of the tag and length expected, or absent; in lent rows, a count or total of counts that is not the rows given
     Line,
     // 2: a field not written as it must be
     Spelling,

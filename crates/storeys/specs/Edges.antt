@@ -19,7 +19,7 @@ use Rattle.storeys.specs.Totals.{total, some}
 use Rattle.storeys.specs.Storey.{meetsWallShare, axialTotal, overShear, someOver, damaged, exceedsShare, riskyByDamage, storeyRisky, storeyFinding, noMember, rowFault, membersFault, storeyCallFault, storeyReturned}
 use Rattle.storeys.specs.Building.{membersBefore, membersOf, riskyAt, countsFault, storeyRowsFault, shearFaultAt, buildingFault, tilted, someRisky, buildingRisky, buildingFinding, buildingReturned}
 
--- a member whose n is N_K and whose n_D is N_D, ρ 25 × A_sh and v 10 × V_e
+-- a member whose n is N_K and whose n_D is N_D, ρ 25 × A_sh, and with a short side of 100 v 10 × V_e
 pub record Case : Type 0 where
   pub number : ℕ
   pub long : ℕ

@@ -1,4 +1,5 @@
--- Each condition of demand 3 is needed: two surveys that break it alone, the first building Risky and the second not.
+-- Conditions of demand 3 (document 00) that it cannot do without: for each of these, two surveys that break it alone, the first building Risky and the
+-- second not.
 use Prim.Native.Nat.{ℕ, _+_}
 use mathlib.Core.List.{List, [], _∷_, _++_, map}
 use mathlib.Core.Path.{_≡_, refl}
@@ -73,7 +74,7 @@ survey g =
           ∷ [];
     }
 
--- a detailed column and a wall with V_e, V_r, V and drift; m is 100 × M_e
+-- columns with k, W, f_cm, hooks, the mark, N_K, M_e, V_r and rotation; walls with N_K, M_e, V_r, V and drift; with k 100 m is 100 × M_e
 abbrev pub column : ℕ → ℕ → ℕ → ℕ → ℕ → ℕ → ℕ → ℕ → ℕ → Given
 column k w fcm hooks strengthened nk me vr rotation =
     record {

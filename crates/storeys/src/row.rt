@@ -15,6 +15,9 @@ use crate::StoreyJudgment;
 use members::class::is_wall;
 use members::finding::MemberAnswer;
 use members::finding::judge_member;
+use members::tables::SHARE_FALL;
+use members::tables::SHARE_FROM;
+use members::tables::SHARE_TO;
 use reading::ranges::member_fault;
 use reading::ranges::storey_fault;
 use reading::records::Member;
@@ -181,13 +184,13 @@ fn exceeds_share(axial: u64, c: u64, over: u64, shear: u64) -> bool
     requires { ⌜ (axial ≤ 1_000_000_000) × (c ≤ 200) × (over ≤ 10_000_000_000) × (shear ≤ 9_999_999) ⌝ }
     ensures { λ r. ⌜ r ≡ exceedsShare (publishedRules .ends) axial c over shear ⌝ }
 {
-    if axial <= 1_000 * c {
+    if axial <= SHARE_FROM * c {
         return 7 * shear < 20 * over;
     }
-    if 6_500 * c <= axial {
+    if SHARE_TO * c <= axial {
         return 0 < over;
     }
-    7 * shear * (6_500 * c - axial) < 110_000 * c * over
+    7 * shear * (SHARE_TO * c - axial) < SHARE_FALL * c * over
 }
 
 // The storey's finding, from its totals.
@@ -216,7 +219,7 @@ fn is_risky(shear: u64, c: u64, t: Tally) -> bool
     if 7 * c <= t.damage {
         return true;
     }
-    if t.axial <= 6_500 * c {
+    if t.axial <= SHARE_TO * c {
         return false;
     }
     t.some

@@ -178,3 +178,15 @@ fn wild_records() {
         assert_eq!(storey_fault(&s.fields().map(|v| v as u64)), fault(check_storey(&s)), "{s:?}");
     }
 }
+
+#[test]
+fn a_record_with_a_missing_field_is_refused() {
+    let s = small();
+    let member = member_numbers(&s.members[0]).unwrap();
+    let header = s.header.fields().map(|v| v as u64);
+    let storey = s.storeys[0].fields().map(|v| v as u64);
+    assert_eq!((header_fault(&header), storey_fault(&storey), member_fault(&member)), (0, 0, 0));
+    (0..6).for_each(|n| assert_eq!(header_fault(&header[..n]), 3, "B with {n} fields"));
+    (0..3).for_each(|n| assert_eq!(storey_fault(&storey[..n]), 3, "S with {n} fields"));
+    (0..26).for_each(|n| assert_eq!(member_fault(&member[..n]), 3, "M with {n} fields"));
+}

@@ -4,6 +4,7 @@ use Prim.Native.Nat.{ℕ}
 use lib.ListN.{getD}
 use native.Mathlib.Omega.{arith}
 use Rattle.reading.proofs.Held.{header-same}
+use Rattle.exports.specs.Words.{handed}
 use borrow.Author.Needs.{needs}
 use Rattle.exports.proofs.judge_calls.header_given.Statement.{statement}
 use Rattle.exports.proofs.judge_calls.header_given.Tie as tie
@@ -19,7 +20,7 @@ header-of-requires : tie.Need-header-of-requires
 header-of-requires c κs = search needs
 
 returns : tie.Need-returns
-returns c = c .header-of .ensures ∙ header-same (λ (j : ℕ). getD (c .before .values-of .result) j 0) (λ (j : ℕ). getD (c .before .before .before .args .values .now) j 0) (λ j h. c .before .values-of .ensures j (omega arith))
+returns c = c .header-of .ensures ∙ header-same (λ (j : ℕ). getD (c .before .values-of .result) j 0) (handed (c .before .before .before .args .values .now)) (λ j h. c .before .values-of .ensures j (omega arith))
 
 pub header-given-spec : {M : Type 1} → statement M
 header-given-spec = tie.close (tie.spec values-of-requires header-of-requires returns)

@@ -4,6 +4,7 @@ use Prim.Native.Nat.{ℕ}
 use lib.ListN.{getD}
 use native.Mathlib.Omega.{arith}
 use Rattle.reading.proofs.Held.{storey-same}
+use Rattle.exports.specs.Words.{handed}
 use borrow.Author.Needs.{needs}
 use Rattle.exports.proofs.judge_calls.storey_given.Statement.{statement}
 use Rattle.exports.proofs.judge_calls.storey_given.Tie as tie
@@ -22,7 +23,7 @@ storey-of-requires c κs = search needs
 
 -- src/judge_calls.rt:45:1
 returns : tie.Need-returns
-returns c = c .storey-of .ensures ∙ storey-same (λ (j : ℕ). getD (c .before .values-of .result) j 0) (λ (j : ℕ). getD (c .before .before .before .args .values .now) j 0) (λ j h. c .before .values-of .ensures j (omega arith))
+returns c = c .storey-of .ensures ∙ storey-same (λ (j : ℕ). getD (c .before .values-of .result) j 0) (handed (c .before .before .before .args .values .now)) (λ j h. c .before .values-of .ensures j (omega arith))
 
 pub storey-given-spec : {M : Type 1} → statement M
 storey-given-spec = tie.close (tie.spec values-of-requires storey-of-requires returns)

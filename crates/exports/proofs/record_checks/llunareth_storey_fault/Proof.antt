@@ -4,6 +4,7 @@ use mathlib.Core.Path.{ap, _∙_}
 use lib.ListN.{getD}
 use Rattle.reading.specs.Records.{storeyFault}
 use Rattle.reading.proofs.Held.{storey-same}
+use Rattle.exports.specs.Words.{handed}
 use borrow.Author.Needs.{needs}
 use Rattle.exports.proofs.record_checks.llunareth_storey_fault.Statement.{statement}
 use Rattle.exports.proofs.record_checks.llunareth_storey_fault.Tie as tie
@@ -18,7 +19,7 @@ storey-fault-requires : tie.Need-storey-fault-requires
 storey-fault-requires c κs = search needs
 
 returns : tie.Need-returns
-returns c = c .storey-fault .ensures ∙ ap storeyFault (c .before .storey-of .ensures ∙ storey-same (λ (j : ℕ). getD (c .before .before .values-of .result) j 0) (λ (j : ℕ). getD (c .before .before .before .before .args .values .now) j 0) (λ j h. c .before .before .values-of .ensures j (omega arith)))
+returns c = c .storey-fault .ensures ∙ ap storeyFault (c .before .storey-of .ensures ∙ storey-same (λ (j : ℕ). getD (c .before .before .values-of .result) j 0) (handed (c .before .before .before .before .args .values .now)) (λ j h. c .before .before .values-of .ensures j (omega arith)))
 
 pub llunareth-storey-fault-spec : {M : Type 1} → statement M
 llunareth-storey-fault-spec =

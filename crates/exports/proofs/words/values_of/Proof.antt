@@ -1,4 +1,5 @@
 use Prim.Native.Nat.{_-_}
+use native.Mathlib.Omega.{arith}
 use borrow.Author.Needs.{needs}
 use Rattle.exports.proofs.Values.{Copied, copied-none, copied-next, copied-all, copied-short}
 use Rattle.exports.proofs.words.values_of.Statement.{statement}
@@ -35,7 +36,7 @@ loop-less : tie.Need-loop-less Inv-loop μ-loop
 loop-less c = search needs
 
 loop-again : tie.Need-loop-again Inv-loop μ-loop
-loop-again c = copied-next _ _ _ (c .before .before .before .loop .inv) (c .before .before .loop-test .taken)
+loop-again c = copied-next _ _ _ (c .before .before .before .loop .inv) (c .before .before .loop-test .taken) (omega (arith, c .before .if1 .left))
 
 returns-2 : tie.Need-returns-2 Inv-loop μ-loop
 returns-2 c = copied-all _ _ _ (c .before .loop .inv) (c .loop-test .left)
