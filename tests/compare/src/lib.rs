@@ -242,3 +242,25 @@ pub fn same_building(survey: &Survey) -> Option<Refusal> {
         }
     }
 }
+
+/// A column that is good, with n = N_K, n_D = N_D, rho 3,250 and neither marks nor demand.
+pub fn plain_column() -> Member {
+    Member {
+        number: 1,
+        long_side: 400,
+        short_side: 250,
+        a_c: 100_000,
+        f_cm: 100,
+        f_ctm: 100,
+        f_yw: 2_200,
+        d: 1_000,
+        h_w: 3_000,
+        s: 100,
+        b_k: 400,
+        a_sh: 130,
+        factor: 100,
+        m_p: 100,
+        v_r: 1,
+        ..Member::default()
+    }
+}

@@ -1,28 +1,10 @@
 //! Edges (a) to (j) of document 01, run through the proved calls.
-use compare::{judge_building, judge_member, judge_storey, member_numbers, member_rows};
+use compare::{judge_building, judge_member, judge_storey, member_numbers, member_rows, plain_column};
 use independent::{Header, Member, Storey};
 
 /// A column whose n is N_K and n_D is N_D, rho 3,250, with neither hooks nor demand; `change` makes the case.
 fn member(change: impl Fn(&mut Member)) -> Member {
-    let mut m = Member {
-        number: 1,
-        long_side: 400,
-        short_side: 250,
-        a_c: 100_000,
-        f_cm: 100,
-        f_ctm: 100,
-        f_yw: 2_200,
-        d: 1_000,
-        h_w: 3_000,
-        s: 100,
-        b_k: 400,
-        a_sh: 130,
-        boundary_zone: 1,
-        factor: 100,
-        m_p: 100,
-        v_r: 100,
-        ..Member::default()
-    };
+    let mut m = Member { boundary_zone: 1, v_r: 100, ..plain_column() };
     change(&mut m);
     m
 }
