@@ -1,13 +1,12 @@
 // The lines of a survey file.
 ghost use mathlib.Core.Path.{_≡_};
-ghost use mathlib.Core.List.{List};
 ghost use Prim.Native.Nat.{ℕ, _+_, _*_, _<_, _≤_};
 ghost use lib.Dec.{eqb};
-ghost use lib.ListN.{length, take, drop, getD};
+ghost use lib.ListN.{length, drop, getD};
 ghost use Rattle.reading.specs.First.{pick};
 ghost use Rattle.reading.specs.Records.{allows, never, ranges, fields};
 ghost use Rattle.reading.specs.Field.{optionOf, FieldsOf};
-ghost use Rattle.reading.specs.Lines.{tagByte, lineEnd, shaped, isForce, faultIn, fieldsFault, valueAt, headerBy, storeyBy, memberBy};
+ghost use Rattle.reading.specs.Lines.{tagByte, lineEnd, shaped, isForce, faultIn, headerBy, storeyBy, memberBy};
 ghost use Rattle.reading.specs.declared.records.Tag.the-variants.{M};
 use crate::cursor::Cursor;
 use crate::cursor::Field;

@@ -1,11 +1,11 @@
 // What makes a record good: every field in its range, and what holds between fields.
 ghost use mathlib.Core.Path.{_≡_};
-ghost use Prim.Native.Nat.{_<_, _≤_};
+ghost use Prim.Native.Nat.{_<_};
 ghost use mathlib.Core.Bool.{_&&_, _||_};
 ghost use lib.Dec.{leb, eqb};
 ghost use lib.ListN.{getD};
 ghost use Rattle.reading.specs.First.{every};
-ghost use Rattle.reading.specs.Records.{never, allows, headerRanges, storeyRanges, memberRanges, ranges, fields, inRange, headerValues, storeyValues, memberValues, headerFault, storeyFault, memberFault};
+ghost use Rattle.reading.specs.Records.{never, allows, headerRanges, storeyRanges, memberRanges, ranges, fields, inRange, headerFault, storeyFault, memberFault};
 use crate::records::Header;
 use crate::records::Member;
 use crate::records::Storey;

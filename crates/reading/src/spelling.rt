@@ -1,6 +1,6 @@
 // The spelling of a number in columns.
 ghost use mathlib.Core.Path.{_≡_};
-ghost use Prim.Native.Nat.{_+_, _^_, _<_, _≤_};
+ghost use Prim.Native.Nat.{_+_, _<_, _≤_};
 ghost use lib.ListN.{length, take, drop};
 ghost use Rattle.reading.specs.Spelling.{column, spelled, same, pushed, value};
 

@@ -1,12 +1,11 @@
 // The check of a whole survey file: its first refusal, with the line.
 ghost use mathlib.Core.Path.{_≡_};
-ghost use mathlib.Core.List.{[], _∷_};
 ghost use Prim.Native.Nat.{ℕ, _+_, _*_, _<_, _≤_};
 ghost use lib.Dec.{eqb};
 ghost use lib.ListN.{length, getD};
-ghost use Rattle.reading.specs.First.{pick, any, inOrder};
+ghost use Rattle.reading.specs.First.{pick, any};
 ghost use Rattle.reading.specs.Checks.{HeaderLineOf, StoreyLineOf, MemberLineOf, MembersDue, CheckedOf};
-ghost use Rattle.reading.specs.Survey.{place, membersBefore, storey, membersFault, survey};
+ghost use Rattle.reading.specs.Survey.{place, storey, membersFault, survey};
 ghost use Rattle.reading.specs.Lines.{storeyAt, memberAt};
 ghost use Rattle.reading.specs.Answer.{tells, told, storeysTold};
 use crate::lines::Fields;

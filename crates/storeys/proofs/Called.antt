@@ -1,12 +1,12 @@
 -- The call on a storey: its finding from the totals, and the order of its refusals.
-use Prim.Native.Nat.{ℕ, zero, suc, _+_, _*_, _-_, _≤_, _<_}
+use Prim.Native.Nat.{ℕ, suc, _*_, _-_, _≤_, _<_}
 use native.Mathlib.Omega.{arith}
-use mathlib.Core.Bool.{Bool, true, false, _&&_, _||_}
+use mathlib.Core.Bool.{Bool, true, false}
 use mathlib.Core.List.{List, [], _∷_}
 use mathlib.Core.Path.{_≡_, refl, ap, sym, _∙_}
-use lib.Dec.{leb, ltb, eqb}
+use lib.Dec.{leb, eqb}
 use lib.ListN.{length, getD}
-use borrow.Author.Tests.{eq-eqb, ne-eqb, eqb-true, leb-true}
+use borrow.Author.Tests.{ne-eqb, eqb-true, leb-true}
 use Rattle.reading.specs.First.{pick, every, inOrder}
 use Rattle.reading.specs.Records.{storeyFault, storeyValues, inRange}
 use Rattle.reading.specs.declared.records.Storey.{Storey}
@@ -20,10 +20,10 @@ use Rattle.members.specs.Finding.{axialRatioD, knowledge, refused}
 use Rattle.members.specs.Class.{isWall}
 use Rattle.storeys.specs.declared.StoreyFinding.{StoreyFinding}
 use Rattle.storeys.specs.declared.StoreyAnswer.{StoreyAnswer}
-use Rattle.storeys.specs.declared.StoreyAnswer.the-variants.{Judged, Refused}
+use Rattle.storeys.specs.declared.StoreyAnswer.the-variants.{Refused}
 use Rattle.storeys.specs.declared.row.Tally.{Tally}
 use Rattle.storeys.specs.Totals.{total}
-use Rattle.storeys.specs.Storey.{publishedRules, wallShear, meetsWallShare, axialTotal, over, shearIfOver, overShear, someOver, storeyRisky, riskyByDamage, storeyFinding, countFault, knowledgeFault, shearFault, memberAt, noMember, membersFault, storeyCallFault, storeyAnswerBy, storeyAnswer, returnedStorey, storeyReturned}
+use Rattle.storeys.specs.Storey.{publishedRules, wallShear, meetsWallShare, axialTotal, over, shearIfOver, overShear, storeyRisky, riskyByDamage, storeyFinding, countFault, knowledgeFault, shearFault, memberAt, noMember, membersFault, storeyCallFault, storeyAnswerBy, storeyAnswer, returnedStorey, storeyReturned}
 use Rattle.storeys.specs.Tally.{tallyOf, Rows, Small, foundBy, headFault, judgedBy}
 use Rattle.storeys.proofs.Rows.{nd-most}
 use Rattle.storeys.proofs.Loops.{row-valid, pick-most}

@@ -2,18 +2,15 @@
 use Prim.Native.Nat.{ℕ, zero, suc, _+_, _*_, _-_, _≤_, _<_}
 use native.Mathlib.Omega.{arith}
 use native.Mathlib.Numerals.{add-one}
-use mathlib.Core.Bool.{Bool, true, false, _&&_, _||_, or-false, or-assoc}
+use mathlib.Core.Bool.{Bool, true, false, _||_, or-false, or-assoc}
 use mathlib.Core.List.{List, [], _∷_}
 use mathlib.Core.Path.{_≡_, refl, ap, sym, _∙_}
-use lib.Dec.{leb, ltb, eqb}
+use lib.Dec.{eqb}
 use lib.ListN.{length, drop, getD, drop-of-length-le}
 use lib.Seq.{drop-cons}
-use borrow.Author.Tests.{eq-eqb, ne-eqb, eqb-true, eqb-false}
 use Rattle.reading.specs.First.{pick, any, inOrder, first}
-use Rattle.reading.specs.Records.{memberFault, storeyFault}
-use Rattle.reading.specs.Survey.{repeated}
+use Rattle.reading.specs.Records.{memberFault}
 use Rattle.reading.specs.Valid.{Valid}
-use Rattle.reading.specs.declared.records.Storey.{Storey}
 use Rattle.reading.specs.declared.records.Member.{Member}
 use Rattle.reading.proofs.Below.{any-none, any-more, any-holds}
 use Rattle.reading.proofs.Firsts.{first-none, first-next, first-kept, first-clear, pick-clear}
@@ -23,7 +20,7 @@ use Rattle.members.specs.Finding.{axialRatioD, knowledge, flag}
 use Rattle.storeys.specs.Totals.{total, some}
 use Rattle.storeys.specs.Storey.{publishedRules, wallShear, axialTotal, over, shearIfOver, overShear, someOver, damaged, memberAt, noMember, rowFault, membersFault}
 use Rattle.storeys.specs.declared.row.Tally.{Tally}
-use Rattle.storeys.specs.Tally.{weightOf, noTally, added, addedBy, tallyOf, Rows, AddsUp}
+use Rattle.storeys.specs.Tally.{weightOf, noTally, added, tallyOf, Rows, AddsUp}
 use Rattle.storeys.proofs.Rows.{nd-most}
 
 -- ---- a number among those before

@@ -1,12 +1,12 @@
 -- The steps of a pass over a storey's rows: one record, and the tests of a storey.
-use Prim.Native.Nat.{ℕ, _+_, _*_, _-_, _≤_, _<_}
+use Prim.Native.Nat.{ℕ, _+_, _*_, _-_, _≤_}
 use native.Mathlib.Omega.{arith}
 use native.Mathlib.Nat.{mul-le-mul}
-use mathlib.Core.Bool.{Bool, true, false, _&&_, _||_, or-true, or-false, and-false, and-true}
-use mathlib.Core.List.{List, [], _∷_}
-use mathlib.Core.Path.{_≡_, refl, sym, ap, _∙_}
-use lib.Dec.{leb, ltb, eqb}
-use Rattle.reading.specs.First.{pick, inOrder}
+use mathlib.Core.Bool.{Bool, true, false, _&&_, _||_, or-true, or-false}
+use mathlib.Core.List.{[], _∷_}
+use mathlib.Core.Path.{_≡_, sym, ap, _∙_}
+use lib.Dec.{leb, ltb}
+use Rattle.reading.specs.First.{inOrder}
 use Rattle.reading.proofs.Firsts.{last-of, pick-zero, pick-other}
 use Rattle.storeys.specs.Storey.{exceedsShare, publishedRules}
 use Rattle.storeys.specs.declared.row.Tally.{Tally}

@@ -14,7 +14,7 @@ use Rattle.storeys.specs.declared.StoreyAnswer.{StoreyAnswer}
 use Rattle.storeys.specs.declared.StoreyAnswer.the-variants.{Judged, Refused}
 use Rattle.storeys.specs.declared.StoreyFinding.{StoreyFinding}
 use Rattle.storeys.specs.declared.row.Tally.{Tally}
-use Rattle.storeys.specs.Storey.{publishedRules, wallShear, axialTotal, over, shearIfOver, overShear, someOver, damaged, exceedsShare, countFault, knowledgeFault, shearFault, membersFault}
+use Rattle.storeys.specs.Storey.{publishedRules, axialTotal, over, overShear, someOver, damaged, exceedsShare, countFault, knowledgeFault, shearFault, membersFault}
 
 -- what a member with damage of a kind adds: 20, 28, 35, 140
 abbrev pub weightOf : ℕ → ℕ

@@ -1,9 +1,6 @@
 use borrow.Author.Needs.{needs}
 use Rattle.exports.proofs.judge_calls.building_words.Statement.{statement}
 use Rattle.exports.proofs.judge_calls.building_words.Tie as tie
-use Rattle.exports.proofs.judge_calls.building_words.Reads as reads
-use Rattle.exports.proofs.judge_calls.building_words.Lts as lts
-use Rattle.exports.proofs.words.flag.Reads as flag-reads
 
 enum-known-a : tie.Need-enum-known-a
 enum-known-a c = search needs

@@ -1,5 +1,4 @@
-use mathlib.Core.Path.{ap, _∙_}
-use mathlib.Core.List.{List}
+use mathlib.Core.Path.{_∙_}
 use Prim.Native.Nat.{ℕ}
 use lib.ListN.{getD}
 use native.Mathlib.Omega.{arith}
@@ -8,10 +7,6 @@ use Rattle.exports.specs.Words.{handed}
 use borrow.Author.Needs.{needs}
 use Rattle.exports.proofs.judge_calls.header_given.Statement.{statement}
 use Rattle.exports.proofs.judge_calls.header_given.Tie as tie
-use Rattle.exports.proofs.judge_calls.header_given.Reads as reads
-use Rattle.exports.proofs.judge_calls.header_given.Lts as lts
-use Rattle.exports.proofs.words.values_of.Reads as values-of-reads
-use Rattle.reading.proofs.lines.header_of.Reads as header-of-reads
 
 values-of-requires : tie.Need-values-of-requires
 values-of-requires c κs = search needs

@@ -3,9 +3,7 @@ use mathlib.Core.Path.{refl, subst}
 use contract.Lifetimes.{Lfts, Shares}
 use contract.Running.{tablesOf}
 use mir.Syntax.{Ty, w64, tyInt, tyRef, named, erased, imm, mut}
-use mir.Val.{vint}
 use denote.Memory.{pointee}
-use borrow.Author.Needs.{needs}
 use borrow.Kind.MutSlice.{fix-len}
 use borrow.Fn.World.{World}
 use borrow.Rule.Slice.Mut.{msleft}

@@ -2,46 +2,31 @@ use borrow.Author.Needs.{needs}
 use mathlib.Core.Path.{ap, _∙_}
 use mathlib.Core.List.{List}
 use Prim.Native.Nat.{ℕ}
-use Rattle.exports.specs.Words.{handed, put}
+use Rattle.exports.specs.Words.{handed, put, ten}
 use lib.ListN.{getD}
 use Rattle.members.specs.Finding.{Returned, memberReturned}
 use Rattle.reading.proofs.Held.{member-same}
-use Rattle.exports.specs.Words.{ten}
 use Rattle.exports.proofs.judge_calls.llunareth_judge_member.Statement.{statement}
 use Rattle.exports.proofs.judge_calls.llunareth_judge_member.Tie as tie
-use Rattle.exports.proofs.judge_calls.llunareth_judge_member.Reads as reads
-use Rattle.exports.proofs.judge_calls.llunareth_judge_member.Lts as lts
-use Rattle.exports.proofs.judge_calls.member_words.Reads as member-words-reads
-use Rattle.exports.proofs.words.put_ten.Reads as put-ten-reads
-use Rattle.exports.proofs.words.values_of.Reads as values-of-reads
-use Rattle.members.proofs.finding.judge_member.Reads as judge-member-reads
-use Rattle.reading.proofs.lines.member_of.Reads as member-of-reads
 
--- src/judge_calls.rt:33:9
 values-of-requires : tie.Need-values-of-requires
 values-of-requires c κs = search needs
 
--- src/judge_calls.rt:34:34
 member-of-requires : tie.Need-member-of-requires
 member-of-requires c κs = search needs
 
--- src/judge_calls.rt:34:9
 judge-member-requires : tie.Need-judge-member-requires
 judge-member-requires c κs = search needs
 
--- src/judge_calls.rt:35:18
 member-words-requires : tie.Need-member-words-requires
 member-words-requires c κs = search needs
 
--- src/judge_calls.rt:35:5
 put-ten-requires : tie.Need-put-ten-requires
 put-ten-requires c κs = search needs
 
--- src/judge_calls.rt:29:1
 same-length : tie.Need-same-length
 same-length c = search needs
 
--- src/judge_calls.rt:29:1
 returns : tie.Need-returns
 returns c =
     let m = c .before .before .before .before .before .before .member-of .ensures ∙ member-same (λ (j : ℕ). getD (c .before .before .before .before .before .before .before .values-of .result) j 0) (handed (c .before .before .before .before .before .before .before .before .before .before .args .values .now)) (c .before .before .before .before .before .before .before .values-of .ensures) in

@@ -1,11 +1,9 @@
 use mathlib.Core.List.{[], _∷_}
-use mathlib.Core.Path.{_≡_, refl, ap, _∙_}
+use mathlib.Core.Path.{refl, ap, _∙_}
 use contract.Lifetimes.{Lfts, Shares}
 use contract.Running.{tablesOf}
 use mir.Syntax.{Ty, w64, tyInt, tyRef, named, erased, imm, mut}
-use mir.Val.{vint}
 use denote.Memory.{pointee}
-use borrow.Author.Needs.{needs}
 use borrow.Kind.MutSlice.{fix-len}
 use borrow.Fn.Args.{vAt}
 use borrow.Fn.World.{World}

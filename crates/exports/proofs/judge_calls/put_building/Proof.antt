@@ -5,10 +5,6 @@ use Rattle.exports.specs.Words.{put}
 use borrow.Author.Needs.{needs}
 use Rattle.exports.proofs.judge_calls.put_building.Statement.{statement}
 use Rattle.exports.proofs.judge_calls.put_building.Tie as tie
-use Rattle.exports.proofs.judge_calls.put_building.Reads as reads
-use Rattle.exports.proofs.judge_calls.put_building.Lts as lts
-use Rattle.exports.proofs.judge_calls.building_words.Reads as building-words-reads
-use Rattle.exports.proofs.words.put_ten.Reads as put-ten-reads
 
 building-words-requires : tie.Need-building-words-requires
 building-words-requires c κs = search needs

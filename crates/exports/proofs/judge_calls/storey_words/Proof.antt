@@ -1,31 +1,22 @@
 use borrow.Author.Needs.{needs}
 use Rattle.exports.proofs.judge_calls.storey_words.Statement.{statement}
 use Rattle.exports.proofs.judge_calls.storey_words.Tie as tie
-use Rattle.exports.proofs.judge_calls.storey_words.Reads as reads
-use Rattle.exports.proofs.judge_calls.storey_words.Lts as lts
-use Rattle.exports.proofs.words.flag.Reads as flag-reads
 
--- src/judge_calls.rt:58:30
 enum-known-a : tie.Need-enum-known-a
 enum-known-a c = search needs
 
--- src/judge_calls.rt:58:80
 flag-requires : tie.Need-flag-requires
 flag-requires c κs = search needs
 
--- src/judge_calls.rt:58:95
 flag-requires-2 : tie.Need-flag-requires-2
 flag-requires-2 c κs = search needs
 
--- src/judge_calls.rt:59:31
 enum-known-a-2 : tie.Need-enum-known-a-2
 enum-known-a-2 c = search needs
 
--- src/judge_calls.rt:53:1
 returns : tie.Need-returns
 returns c = rw (c .flag2 .ensures, c .before .flag .ensures) (simp (c .before .before .before .a .given .1))
 
--- src/judge_calls.rt:53:1
 returns-2 : tie.Need-returns-2
 returns-2 c = simp (c .before .a2 .given .1)
 

@@ -1,5 +1,4 @@
 use Prim.Native.Nat.{_-_, _*_, _≤_}
-use Prim.Native.Nat.{_-_, _*_, _≤_}
 use native.Mathlib.Omega.{arith}
 use Rattle.members.proofs.Arithmetic.{product}
 use borrow.Author.Needs.{needs}

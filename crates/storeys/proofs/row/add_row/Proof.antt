@@ -3,32 +3,22 @@ use Rattle.storeys.proofs.Rows.{finding-same, not-refused, added-same, 
 use borrow.Author.Needs.{needs}
 use Rattle.storeys.proofs.row.add_row.Statement.{statement}
 use Rattle.storeys.proofs.row.add_row.Tie as tie
-use Rattle.storeys.proofs.row.add_row.Reads as reads
-use Rattle.storeys.proofs.row.add_row.Lts as lts
-use Rattle.members.proofs.finding.judge_member.Reads as judge-member-reads
-use Rattle.storeys.proofs.row.add_finding.Reads as add-finding-reads
 
--- src/row.rt:121:11
 judge-member-requires : tie.Need-judge-member-requires
 judge-member-requires c κs = search needs
 
--- src/row.rt:122:30
 enum-known-f : tie.Need-enum-known-f
 enum-known-f c = search needs
 
--- src/row.rt:122:36
 add-finding-requires : tie.Need-add-finding-requires
 add-finding-requires c κs = room-for _ _ _ _ _ (c .before .before .before .before .pre) (finding-same (c .before .before .before .before .args .k) (c .before .before .before .before .args .met) (c .before .before .before .before .args .m) (c .before .before .before .before .pre .level) (c .before .before .before .before .pre .good) (c .before .before .before .judge-member .result) (c .before .f .given .0 .0) (c .before .before .before .judge-member .ensures .0) (c .before .f .given .1))
 
--- src/row.rt:123:37
 enum-told : tie.Need-enum-told
 enum-told c = search needs
 
--- src/row.rt:117:1
 returns : tie.Need-returns
 returns c = c .add-finding .ensures ∙ added-same _ _ _ _ _ (finding-same (c .before .before .before .before .before .args .k) (c .before .before .before .before .before .args .met) (c .before .before .before .before .before .args .m) (c .before .before .before .before .before .pre .level) (c .before .before .before .before .before .pre .good) (c .before .before .before .before .judge-member .result) (c .before .before .f .given .0 .0) (c .before .before .before .before .judge-member .ensures .0) (c .before .before .f .given .1))
 
--- src/row.rt:117:1
 returns-2 : tie.Need-returns-2
 returns-2 c = absurd (not-refused (c .before .before .before .args .k) (c .before .before .before .args .met) (c .before .before .before .args .m) (c .before .before .before .pre .level) (c .before .before .before .pre .good) (c .before .before .judge-member .result) _ (c .before .before .judge-member .ensures .0) (c .enum-told .given .1))
 

@@ -1,40 +1,29 @@
-use native.Mathlib.Omega.{arith}
-use mathlib.Core.Path.{_≡_, refl, sym, ap, _∙_}
-use Prim.Native.Nat.{ℕ, _+_, _*_, _-_, _≤_, _<_}
+use mathlib.Core.Path.{sym, _∙_}
+use Prim.Native.Nat.{_-_}
 use borrow.Author.Tests.{le-leb, lt-leb, le-ltb, lt-ltb}
 use Rattle.storeys.proofs.Rows.{risky-first, risky-second, risky-third, risky-last}
 use borrow.Author.Needs.{needs}
 use Rattle.storeys.proofs.row.is_risky.Statement.{statement}
 use Rattle.storeys.proofs.row.is_risky.Tie as tie
-use Rattle.storeys.proofs.row.is_risky.Reads as reads
-use Rattle.storeys.proofs.row.is_risky.Lts as lts
-use Rattle.storeys.proofs.row.exceeds_share.Reads as exceeds-share-reads
 
--- src/row.rt:213:8
 exceeds-share-requires : tie.Need-exceeds-share-requires
 exceeds-share-requires c κs = search needs
 
--- src/row.rt:214:9
 returns : tie.Need-returns
 returns c = risky-first (c .before .before .args .shear) (c .before .before .args .c) (c .before .before .args .t) (sym (c .before .exceeds-share .ensures) ∙ c .if1 .taken)
 
--- src/row.rt:216:8
 mul-if2 : tie.Need-mul-if2
 mul-if2 c = search needs
 
--- src/row.rt:217:9
 returns-2 : tie.Need-returns-2
 returns-2 c = risky-second (c .before .before .before .before .args .shear) (c .before .before .before .before .args .c) (c .before .before .before .before .args .t) (le-leb _ _ (c .if2 .taken))
 
--- src/row.rt:219:19
 mul-if3 : tie.Need-mul-if3
 mul-if3 c = search needs
 
--- src/row.rt:220:9
 returns-3 : tie.Need-returns-3
 returns-3 c = risky-third (c .before .before .before .before .before .before .args .shear) (c .before .before .before .before .before .before .args .c) (c .before .before .before .before .before .before .args .t) (sym (c .before .before .before .before .before .exceeds-share .ensures) ∙ c .before .before .before .before .if1 .left) (lt-leb _ _ (c .before .before .if2 .left)) (le-ltb _ _ (c .if3 .taken))
 
--- src/row.rt:209:1
 returns-4 : tie.Need-returns-4
 returns-4 c = risky-last (c .before .before .before .before .before .before .args .shear) (c .before .before .before .before .before .before .args .c) (c .before .before .before .before .before .before .args .t) (sym (c .before .before .before .before .before .exceeds-share .ensures) ∙ c .before .before .before .before .if1 .left) (lt-leb _ _ (c .before .before .if2 .left)) (lt-ltb _ _ (c .if3 .left))
 

@@ -1,14 +1,10 @@
 use borrow.Author.Tests.{eq-eqb, ne-eqb}
 use Rattle.storeys.proofs.row.knows.Statement.{statement}
 use Rattle.storeys.proofs.row.knows.Tie as tie
-use Rattle.storeys.proofs.row.knows.Reads as reads
-use Rattle.storeys.proofs.row.knows.Lts as lts
 
--- src/row.rt:153:9
 returns : tie.Need-returns
 returns c = simp (eq-eqb _ _ (c .if1 .taken))
 
--- src/row.rt:149:1
 returns-2 : tie.Need-returns-2
 returns-2 c = simp (ne-eqb _ _ (c .if1 .left))
 

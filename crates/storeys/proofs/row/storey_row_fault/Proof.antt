@@ -1,23 +1,16 @@
-use native.Mathlib.Omega.{arith}
-use mathlib.Core.Path.{_≡_, refl, sym, ap, _∙_}
-use Prim.Native.Nat.{ℕ, _+_, _*_, _-_, _≤_, _<_}
+use mathlib.Core.Path.{sym, _∙_}
+use Prim.Native.Nat.{_-_}
 use Rattle.storeys.proofs.Rows.{two-first, two-second}
 use borrow.Author.Needs.{needs}
 use Rattle.storeys.proofs.row.storey_row_fault.Statement.{statement}
 use Rattle.storeys.proofs.row.storey_row_fault.Tie as tie
-use Rattle.storeys.proofs.row.storey_row_fault.Reads as reads
-use Rattle.storeys.proofs.row.storey_row_fault.Lts as lts
-use Rattle.reading.proofs.ranges.storey_fault.Reads as storey-fault-reads
 
--- src/row.rt:68:9
 storey-fault-requires : tie.Need-storey-fault-requires
 storey-fault-requires c κs = search needs
 
--- src/row.rt:70:9
 returns : tie.Need-returns
 returns c = c .before .storey-fault .ensures ∙ two-first _ (c .before .before .args .repeated) (λ z. c .if1 .taken (c .before .storey-fault .ensures ∙ z))
 
--- src/row.rt:65:1
 returns-2 : tie.Need-returns-2
 returns-2 c = two-second _ (c .before .before .args .repeated) (sym (c .before .storey-fault .ensures) ∙ c .if1 .left)
 

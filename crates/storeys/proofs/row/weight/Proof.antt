@@ -1,28 +1,21 @@
 use native.Mathlib.Omega.{arith}
-use mathlib.Core.Path.{_≡_, refl, sym, ap, _∙_}
-use Prim.Native.Nat.{ℕ, _+_, _*_, _-_, _≤_, _<_}
+use mathlib.Core.Path.{_≡_}
+use Prim.Native.Nat.{_-_}
 use Rattle.storeys.proofs.row.weight.Statement.{statement}
 use Rattle.storeys.proofs.row.weight.Tie as tie
-use Rattle.storeys.proofs.row.weight.Reads as reads
-use Rattle.storeys.proofs.row.weight.Lts as lts
 
--- src/row.rt:102:9
 returns : tie.Need-returns
 returns c = let e = c .if1 .taken in (rw e, omega arith)
 
--- src/row.rt:105:9
 returns-2 : tie.Need-returns-2
 returns-2 c = let e = c .if2 .taken in (rw e, omega arith)
 
--- src/row.rt:108:9
 returns-3 : tie.Need-returns-3
 returns-3 c = let e = c .if3 .taken in (rw e, omega arith)
 
--- src/row.rt:111:9
 returns-4 : tie.Need-returns-4
 returns-4 c = let e = c .if4 .taken in (rw e, omega arith)
 
--- src/row.rt:97:1
 returns-5 : tie.Need-returns-5
 returns-5 c = let e : c .before .before .before .before .args .kind ≡ 4 = omega (arith, c .before .before .before .if1 .left, c .before .before .if2 .left, c .before .if3 .left, c .if4 .left, c .before .before .before .before .pre) in (rw e, omega arith)
 

@@ -1,20 +1,16 @@
 use borrow.Kind.Bool.{bAt}
-use mathlib.Core.Bool.{Bool, true, false}
-use mathlib.Core.List.{List, [], _∷_}
-use mathlib.Core.Path.{_≡_, refl, ap, sym, _∙_}
-use lib.ListN.{length}
-use borrow.Author.Tests.{eqb-true, eqb-false, not-true, not-false}
+use mathlib.Core.List.{[], _∷_}
+use mathlib.Core.Path.{refl}
 use Rattle.storeys.proofs.Called.{shear-most, walls-most, tally-small, found-is}
 use contract.Lifetimes.{Lfts, Shares}
 use contract.Running.{tablesOf}
 use mir.Syntax.{Ty, tyRef, named, imm}
 use denote.Memory.{pointee}
-use borrow.Author.Needs.{needs}
 use borrow.Fn.Args.{vAt}
 use borrow.Fn.World.{World}
 use borrow.Table.Row.{Cx, sBool}
 use borrow.Table.Rows.{any-gone, sc-here, any-gone}
-use Rattle.walk.proofs.Walk.{told, S, _⨾_, _▸_, at, from, set, fld, sc, gone, old, forget, ret, u64}
+use Rattle.walk.proofs.Walk.{S, _⨾_, _▸_, at, from, set, fld, sc, gone, old, forget, ret, u64}
 use Rattle.walk.proofs.Slice.{ty, R, kept, full, here, sh-len, val-at, sh-at, sh-spares, sh-reads}
 use Rattle.walk.proofs.Fn.{Callee, Knows, Body, Answers, entry, callee, knows, call, meets}
 use Rattle.reading.proofs.Structs.{member, storey}

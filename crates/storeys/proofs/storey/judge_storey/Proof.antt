@@ -1,14 +1,11 @@
-use mathlib.Core.Bool.{Bool, true, false}
-use mathlib.Core.List.{List, [], _∷_}
-use mathlib.Core.Path.{_≡_, refl, ap, sym, _∙_}
-use lib.ListN.{length}
+use mathlib.Core.List.{[], _∷_}
+use mathlib.Core.Path.{refl}
 use borrow.Author.Tests.{eqb-true, eqb-false, not-true, not-false}
 use Rattle.storeys.proofs.Called.{head-refused, rows-refused, storey-clear, level-clear, rows-clear, judged-is}
 use contract.Lifetimes.{Lfts, Shares}
 use contract.Running.{tablesOf}
 use mir.Syntax.{Ty, w64, ne, tyRef, named, imm}
 use denote.Memory.{pointee}
-use borrow.Author.Needs.{needs}
 use borrow.Fn.Args.{vAt}
 use borrow.Fn.World.{World}
 use borrow.Table.Row.{Cx, sBool}

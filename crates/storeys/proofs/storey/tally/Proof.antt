@@ -1,15 +1,11 @@
 use borrow.Kind.Bool.{bAt}
-use Prim.Native.Nat.{ℕ, _+_, _*_, _-_, _≤_}
+use Prim.Native.Nat.{ℕ, _+_, _-_, _≤_}
 use native.Mathlib.Omega.{arith}
-use mathlib.Core.Bool.{Bool, true, false}
-use mathlib.Core.List.{List, [], _∷_}
-use mathlib.Core.Path.{_≡_, refl, ap, sym, _∙_}
-use lib.ListN.{length, drop}
-use lib.Dec.{eqb}
-use borrow.Author.Tests.{ltb-true, ltb-false, eqb-true, eqb-false, not-true, not-false}
-use Rattle.storeys.specs.Storey.{noMember, memberAt, rowFault, wallShear}
-use Rattle.storeys.specs.Totals.{total}
-use Rattle.reading.specs.First.{any, first}
+use mathlib.Core.List.{[]}
+use mathlib.Core.Path.{refl}
+use lib.ListN.{length}
+use borrow.Author.Tests.{ltb-true, ltb-false}
+use Rattle.storeys.specs.Storey.{noMember}
 use Rattle.storeys.specs.declared.row.Tally.{Tally}
 use Rattle.storeys.proofs.Loops.{Going, going-none, tally-room, going-next, going-all}
 use contract.Lifetimes.{Lfts, Shares}

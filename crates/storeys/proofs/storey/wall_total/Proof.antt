@@ -1,14 +1,11 @@
 use Prim.Native.Nat.{ℕ, _+_, _*_, _-_, _≤_}
 use native.Mathlib.Omega.{arith}
-use mathlib.Core.Bool.{Bool, true, false}
-use mathlib.Core.List.{List, [], _∷_}
-use mathlib.Core.Path.{_≡_, refl, ap, sym, _∙_}
+use mathlib.Core.List.{[]}
+use mathlib.Core.Path.{_≡_, refl}
 use lib.ListN.{length, drop}
-use lib.Dec.{eqb}
-use borrow.Author.Tests.{ltb-true, ltb-false, eqb-true, eqb-false, not-true, not-false}
-use Rattle.storeys.specs.Storey.{noMember, memberAt, rowFault, wallShear}
+use borrow.Author.Tests.{ltb-true, ltb-false}
+use Rattle.storeys.specs.Storey.{noMember, wallShear}
 use Rattle.storeys.specs.Totals.{total}
-use Rattle.reading.specs.First.{any, first}
 use Rattle.storeys.proofs.Loops.{wall-room, wall-next, wall-all}
 use contract.Lifetimes.{Lfts, Shares}
 use contract.Running.{tablesOf}
