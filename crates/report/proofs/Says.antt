@@ -1,0 +1,74 @@
+-- The contracts of the functions over rows, for their walks and for their callers' walks. Each is checked against the function's own
+-- clauses where the function is proved.
+use Prim.Native.Nat.{ℕ, _+_, _*_, _≤_}
+use mathlib.Core.Bool.{true}
+use mathlib.Core.List.{[], _∷_}
+use mathlib.Core.Path.{_≡_}
+use lib.ListN.{length}
+use mir.Syntax.{w8, w64}
+use denote.RattleType.{RattleType}
+use borrow.Fn.Kinds.{rNum}
+use borrow.Kind.Num.{pNum}
+use borrow.Kind.Bool.{pBool}
+use borrow.Kind.ShrSlice.{pShrS}
+use borrow.Kind.MutSlice.{pMutS}
+use borrow.Table.Referent.{rtF, fInt}
+use Rattle.members.specs.Finding.{knowledge}
+use Rattle.storeys.specs.Storey.{publishedRules, membersFault, storeyCallFault}
+use Rattle.storeys.specs.Building.{buildingFault}
+use Rattle.walk.proofs.Fn.{Plain}
+use Rattle.walk.proofs.Slice.{R, taken, made}
+use Rattle.reading.proofs.Structs.{header, member, storey}
+use Rattle.report.specs.Line.{stamped}
+use Rattle.report.specs.Sheet.{memberLines, storeyLines, storeysLines, reportAnswer, returnedReport, reportReturned, bufferAfter}
+use Rattle.report.proofs.Structs.{reportjudgment}
+
+abbrev pub bytes : RattleType
+bytes = rtF (fInt w8)
+
+abbrev pub put-members : Plain {n = 2} (pMutS bytes 0 tt ∷ pNum w64 ∷ pNum w64 ∷ pBool ∷ pShrS (R member) 1 tt ∷ []) (rNum w64)
+put-members = record {
+  requires = λ κs a.
+      ((knowledge (a .1 .1 .0) ≡ true)
+      × (membersFault (a .1 .1 .1 .1 .0 .now) ≡ 0)
+      × (a .1 .0 + 86 * length (a .1 .1 .1 .1 .0 .now) ≤ length (a .0 .now)))
+      ∷ [];
+  ensures = λ κs a z e.
+      (z ≡ a .1 .0 + 86 * length (a .1 .1 .1 .1 .0 .now))
+      ∷ (e .0 .now ≡ stamped (a .0 .now) (a .1 .0) (memberLines (a .1 .1 .0) (a .1 .1 .1 .0) (a .1 .1 .1 .1 .0 .now)))
+      ∷ [];
+}
+
+abbrev pub put-storey-lines : Plain {n = 2} (pMutS bytes 0 tt ∷ pNum w64 ∷ pNum w64 ∷ taken storey ∷ pShrS (R member) 1 tt ∷ []) (rNum w64)
+put-storey-lines = record {
+  requires = λ κs a.
+      ((storeyCallFault publishedRules (a .1 .1 .0) (a .1 .1 .1 .0) (a .1 .1 .1 .1 .0 .now) ≡ 0)
+      × (a .1 .0 + (86 * length (a .1 .1 .1 .1 .0 .now) + 74) ≤ length (a .0 .now)))
+      ∷ [];
+  ensures = λ κs a z e.
+      (z ≡ a .1 .0 + (86 * length (a .1 .1 .1 .1 .0 .now) + 74))
+      ∷ (e .0 .now ≡ stamped (a .0 .now) (a .1 .0) (storeyLines (a .1 .1 .0) (a .1 .1 .1 .0) (a .1 .1 .1 .1 .0 .now)))
+      ∷ [];
+}
+
+abbrev pub put-storeys : Plain {n = 3} (pMutS bytes 0 tt ∷ taken header ∷ pShrS (R storey) 1 tt ∷ pShrS (R member) 2 tt ∷ []) (rNum w64)
+put-storeys = record {
+  requires = λ κs a.
+      ((buildingFault publishedRules (a .1 .0) (a .1 .1 .0 .now) (a .1 .1 .1 .0 .now) ≡ 0)
+      × (86 * length (a .1 .1 .1 .0 .now) + 74 * length (a .1 .1 .0 .now) ≤ length (a .0 .now)))
+      ∷ [];
+  ensures = λ κs a z e.
+      (z ≡ 86 * length (a .1 .1 .1 .0 .now) + 74 * length (a .1 .1 .0 .now))
+      ∷ (e .0 .now ≡ stamped (a .0 .now) 0 (storeysLines (a .1 .0 .knowledge) (a .1 .1 .0 .now) (a .1 .1 .1 .0 .now) 0 (length (a .1 .1 .0 .now))))
+      ∷ [];
+}
+
+abbrev pub write-report : Plain {n = 3} (taken header ∷ pShrS (R storey) 0 tt ∷ pShrS (R member) 1 tt ∷ pMutS bytes 2 tt ∷ []) (made reportjudgment)
+write-report = record {
+  requires = λ κs a. [];
+  ensures = λ κs a z e.
+      (z .answer ≡ reportAnswer (a .0) (a .1 .0 .now) (a .1 .1 .0 .now) (length (a .1 .1 .1 .0 .now)))
+      ∷ (returnedReport (z .answer) ≡ reportReturned (a .0) (a .1 .0 .now) (a .1 .1 .0 .now) (length (a .1 .1 .1 .0 .now)))
+      ∷ (e .1 .1 .1 .0 .now ≡ bufferAfter (a .0) (a .1 .0 .now) (a .1 .1 .0 .now) (a .1 .1 .1 .0 .now))
+      ∷ [];
+}

@@ -1,0 +1,100 @@
+-- Laws of bytes put in the place of others, and of the lines' lengths.
+use Prim.Native.Nat.{ℕ, zero, suc, _+_, _*_, _-_, _≤_, _<_}
+use native.Mathlib.Omega.{arith}
+use native.Mathlib.Numerals.{add-one}
+use mathlib.Core.List.{List, [], _∷_, _++_, append-assoc, append-nil}
+use mathlib.Core.Path.{_≡_, refl, ap, sym, _∙_}
+use lib.ListN.{length, drop, set, getD, length-set, length-append, drop-of-length-le}
+use lib.Seq.{drop-cons, set-append-seam, append-snoc}
+use Rattle.reading.specs.Spelling.{column, spelled}
+use Rattle.report.specs.Line.{fields, line, stamped}
+
+pub length-stamped : (xs bytes : List ℕ) (at : ℕ) → length (stamped bytes at xs) ≡ length bytes
+unfolding stamped
+length-stamped [] bytes at = refl
+length-stamped (x ∷ xs) bytes at = length-stamped xs (set bytes at x) (at + 1) ∙ length-set bytes at x
+
+pub kept-length : (out bytes : List ℕ) (at : ℕ) (xs : List ℕ) → out ≡ stamped bytes at xs → length out ≡ length bytes
+kept-length out bytes at xs e = ap length e ∙ length-stamped xs bytes at
+
+pub stamped-none : (bytes : List ℕ) (at : ℕ) → stamped bytes at [] ≡ bytes
+unfolding stamped
+stamped-none bytes at = refl
+
+pub stamped-byte : (bytes : List ℕ) (at x : ℕ) (xs : List ℕ) → stamped (set bytes at x) (at + 1) xs ≡ stamped bytes at (x ∷ xs)
+unfolding stamped
+stamped-byte bytes at x xs = refl
+
+-- one text after another
+pub stamped-both : (xs ys bytes : List ℕ) (at next : ℕ) → next ≡ at + length xs → stamped (stamped bytes at xs) next ys ≡ stamped bytes at (xs ++ ys)
+unfolding stamped
+stamped-both [] ys bytes at next e = let q : next ≡ at = omega arith in rw q
+stamped-both (x ∷ xs) ys bytes at next e = stamped-both xs ys (set bytes at x) (at + 1) next (omega arith)
+
+-- from the front: the text, and the bytes after it as they were
+stamped-after : (xs before bytes : List ℕ) → length xs ≤ length bytes → stamped (before ++ bytes) (length before) xs ≡ before ++ (xs ++ drop (length xs) bytes)
+unfolding stamped
+stamped-after [] before bytes h = refl
+stamped-after (x ∷ xs) before [] h = let z : ⊥ = omega arith in absurd z
+stamped-after (x ∷ xs) before (b ∷ bytes) h =
+    let e : length before + 1 ≡ length (before ++ (x ∷ [])) = omega (arith, length-append before (x ∷ [])) in
+    rw (set-append-seam before b bytes x, ← append-snoc before x bytes, e)
+    (stamped-after xs (before ++ (x ∷ [])) bytes (omega arith) ∙ append-snoc before x (xs ++ drop (length xs) bytes))
+
+pub stamped-front : (xs bytes : List ℕ) → length xs ≤ length bytes → stamped bytes 0 xs ≡ xs ++ drop (length xs) bytes
+stamped-front xs bytes h = stamped-after xs [] bytes h
+
+-- ---- the loops
+
+-- the bytes of a text, one by one
+pub text-next : (out before text : List ℕ) (at i v : ℕ) → stamped out (at + i) (drop i text) ≡ stamped before at text → i < length text → v ≡ getD text i 0 → stamped (set out (at + i) v) (at + (i + 1)) (drop (i + 1) text) ≡ stamped before at text
+text-next out before text at i v e h q =
+    let p : at + (i + 1) ≡ (at + i) + 1 = omega arith in
+    rw (q, p, stamped-byte, add-one i) (rw (drop-cons text i 0 h) at e)
+
+pub text-end : (out before text : List ℕ) (at i p : ℕ) → stamped out p (drop i text) ≡ stamped before at text → length text ≤ i → out ≡ stamped before at text
+text-end out before text at i p e h = sym (stamped-none out p) ∙ (rw (drop-of-length-le text h) at e)
+
+-- the columns of a number, one by one
+pub field-next : (out before : List ℕ) (p left n v : ℕ) → stamped out p (spelled left 32 n) ≡ before → 0 < left → v ≡ column 32 n (left - 1) → stamped (set out p v) (p + 1) (spelled (left - 1) 32 n) ≡ before
+unfolding spelled
+field-next out before p zero n v e h q = let z : ⊥ = omega arith in absurd z
+field-next out before p (suc left) n v e h q = let l : suc left - 1 ≡ left = omega arith in rw (stamped-byte, q, l) e
+
+pub field-end : (out before : List ℕ) (p left n : ℕ) → stamped out p (spelled left 32 n) ≡ before → left ≤ 0 → out ≡ before
+unfolding spelled
+field-end out before p zero n e h = sym (stamped-none out p) ∙ e
+field-end out before p (suc left) n e h = let z : ⊥ = omega arith in absurd z
+
+pub length-spelled : (w sign n : ℕ) → length (spelled w sign n) ≡ w
+unfolding spelled
+length-spelled zero sign n = refl
+length-spelled (suc w) sign n = rw (length-spelled w sign n)
+
+pub length-fields : (ns : List ℕ) → length (fields ns) ≡ 12 * length ns
+unfolding fields
+length-fields [] = refl
+length-fields (n ∷ ns) = omega (arith, length-append (spelled 12 32 n) (fields ns), length-spelled 12 32 n, length-fields ns)
+
+pub length-line : (tag ns : List ℕ) → length (line tag ns) ≡ length tag + (12 * length ns + 1)
+unfolding line
+length-line tag ns = omega (arith, length-append tag (fields ns ++ (10 ∷ [])), length-append (fields ns) (10 ∷ []), length-fields ns)
+
+-- the fields of a line, one by one
+pub fields-next : (out before turned ns : List ℕ) (p next i : ℕ) → stamped out p (fields (drop i ns)) ≡ before → i < length ns → turned ≡ stamped out p (spelled 12 32 (getD ns i 0)) → next ≡ p + 12 → stamped turned next (fields (drop (i + 1) ns)) ≡ before
+unfolding fields
+fields-next out before turned ns p next i e h q l =
+    rw (q, stamped-both (spelled 12 32 (getD ns i 0)) (fields (drop (i + 1) ns)) out p next (omega (arith, length-spelled 12 32 (getD ns i 0))), add-one i)
+    (rw (drop-cons ns i 0 h) at e)
+
+pub fields-end : (out before ns : List ℕ) (p i : ℕ) → stamped out p (fields (drop i ns)) ≡ before → length ns ≤ i → out ≡ before
+unfolding fields
+fields-end out before ns p i e h = sym (stamped-none out p) ∙ (rw (drop-of-length-le ns h) at e)
+
+-- tag, fields and LF are a line
+pub line-done : (bytes tagged filled ended tag ns lf : List ℕ) (at p q : ℕ) → tagged ≡ stamped bytes at tag → p ≡ at + length tag → filled ≡ stamped tagged p (fields ns) → q ≡ p + 12 * length ns → ended ≡ stamped filled q lf → lf ≡ 10 ∷ [] → ended ≡ stamped bytes at (line tag ns)
+unfolding line
+line-done bytes tagged filled ended tag ns lf at p q a b c d e f =
+    e
+    ∙ rw (c, a, f, stamped-both tag (fields ns) bytes at p b)
+    (stamped-both (tag ++ fields ns) (10 ∷ []) bytes at q (omega (arith, length-append tag (fields ns), length-fields ns, b, d)) ∙ rw append-assoc)

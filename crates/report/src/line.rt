@@ -1,0 +1,52 @@
+// One line of the sheet, put into the bytes from a place on. Each function gives the next place.
+ghost use mathlib.Core.Path.{_≡_};
+ghost use Prim.Native.Nat.{_+_, _*_, _≤_};
+ghost use lib.ListN.{length};
+ghost use Rattle.reading.specs.Spelling.{spelled};
+ghost use Rattle.report.specs.Line.{line, stamped};
+use reading::spelling::column_of;
+
+// Bytes as they stand.
+fn put_text(out: &mut [u8], at: usize, text: &[u8]) -> usize
+    requires { ⌜ at + length (now text) ≤ length (now out) ⌝ }
+    ensures { λ r. ⌜ r ≡ at + length (now (text .entry)) ⌝ }
+    ensures { λ _. ⌜ now (out .exit) ≡ stamped (now (out .entry)) at (now (text .entry)) ⌝ }
+{
+    let mut i = 0;
+    while i < text.len() {
+        out[at + i] = text[i];
+        i += 1;
+    }
+    at + i
+}
+
+// A number in a field of 12 columns.
+fn put_field(out: &mut [u8], at: usize, n: u64) -> usize
+    requires { ⌜ at + 12 ≤ length (now out) ⌝ }
+    ensures { λ r. ⌜ r ≡ at + 12 ⌝ }
+    ensures { λ _. ⌜ now (out .exit) ≡ stamped (now (out .entry)) at (spelled 12 32 n) ⌝ }
+{
+    let mut p = at;
+    let mut left = 12;
+    while 0 < left {
+        left -= 1;
+        out[p] = column_of(b' ', n, left);
+        p += 1;
+    }
+    p
+}
+
+// A line: its tag, its fields, LF.
+pub(crate) fn put_line(out: &mut [u8], at: usize, tag: &[u8], values: &[u64]) -> usize
+    requires { ⌜ at + (length (now tag) + (12 * length (now values) + 1)) ≤ length (now out) ⌝ }
+    ensures { λ r. ⌜ r ≡ at + (length (now (tag .entry)) + (12 * length (now (values .entry)) + 1)) ⌝ }
+    ensures { λ _. ⌜ now (out .exit) ≡ stamped (now (out .entry)) at (line (now (tag .entry)) (now (values .entry))) ⌝ }
+{
+    let mut p = put_text(out, at, tag);
+    let mut i = 0;
+    while i < values.len() {
+        p = put_field(out, p, values[i]);
+        i += 1;
+    }
+    put_text(out, p, b"\n")
+}
