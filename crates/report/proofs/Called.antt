@@ -1,19 +1,17 @@
 -- The report call: its refusals in their order, the sheet's length, and the buffer afterwards.
-use Prim.Native.Nat.{ℕ, zero, suc, _+_, _*_, _-_, _≤_, _<_}
+use Prim.Native.Nat.{ℕ, zero, suc, _+_, _*_, _-_, _≤_}
 use native.Mathlib.Omega.{arith}
 use mathlib.Core.Bool.{Bool, true, false}
-use mathlib.Core.List.{List, [], _∷_, _++_}
-use mathlib.Core.Path.{_≡_, refl, ap, sym, _∙_}
+use mathlib.Core.List.{List, [], _∷_}
+use mathlib.Core.Path.{_≡_, refl, sym, _∙_}
 use lib.Dec.{leb, eqb}
-use lib.ListN.{length, drop, length-append}
-use borrow.Author.Tests.{eq-eqb, ne-eqb, eqb-true, eqb-false, leb-true}
-use Rattle.reading.specs.First.{pick, inOrder}
+use lib.ListN.{length, length-append}
+use borrow.Author.Tests.{eq-eqb, ne-eqb, eqb-true, leb-true}
 use Rattle.reading.specs.declared.records.Header.{Header}
 use Rattle.reading.specs.declared.records.Storey.{Storey}
 use Rattle.reading.specs.declared.records.Member.{Member}
 use Rattle.reading.proofs.Firsts.{last-of}
 use Rattle.reading.proofs.Validity.{clear}
-use Rattle.members.specs.Finding.{refused}
 use Rattle.storeys.specs.Storey.{publishedRules}
 use Rattle.storeys.specs.Building.{storeyAt, membersBefore, membersOf, tilted, buildingRisky, buildingFault, buildingFinding, buildingAnswerBy, placeIn, Answers}
 use Rattle.storeys.specs.declared.BuildingFinding.{BuildingFinding}

@@ -5,3 +5,5 @@ pub mod Survey
 pub mod Structs
 pub mod Says
 pub mod Called
+pub mod Example
+pub mod Reordered

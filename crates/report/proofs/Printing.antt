@@ -1,9 +1,7 @@
 -- The lines of one record, and the refusals of the report call, by what the judging calls answer.
-use Prim.Native.Nat.{ℕ, _+_, _*_, _≤_, _<_}
-use native.Mathlib.Omega.{arith}
-use mathlib.Core.Bool.{Bool, true, false}
+use Prim.Native.Nat.{ℕ, _≤_, _<_}
 use mathlib.Core.List.{List, [], _∷_}
-use mathlib.Core.Path.{_≡_, refl, ap, sym, _∙_}
+use mathlib.Core.Path.{_≡_}
 use borrow.Author.Tests.{le-leb, lt-leb}
 use Rattle.members.specs.Class.{code}
 use Rattle.members.specs.Finding.{flag}
@@ -20,6 +18,9 @@ use Rattle.report.specs.Sheet.{memberLine, storeyLine, buildingLine, lin
 pub member-line-is : (number c o : ℕ) (f : Finding) → c ≡ code (f .class) → o ≡ flag (f .over) → line (77 ∷ []) (number ∷ c ∷ f .m .0 ∷ f .«m_limit» .0 ∷ f .rotation .0 ∷ f .«rotation_limit» .0 ∷ o ∷ []) ≡ memberLine number f
 unfolding memberLine
 member-line-is number c o f e g = rw (e, g)
+
+pub member-line-of : (out bytes : List ℕ) (at number : ℕ) (f g : Finding) → out ≡ stamped bytes at (memberLine number f) → f ≡ g → out ≡ stamped bytes at (memberLine number g)
+member-line-of out bytes at number f g e q = rw (← q) e
 
 pub storey-line-is : (number r : ℕ) (f : StoreyFinding) → r ≡ flag (f .risky) → line (83 ∷ []) (number ∷ f .axial ∷ f .members ∷ f .over ∷ f .shear ∷ r ∷ []) ≡ storeyLine number f
 unfolding storeyLine

@@ -1,17 +1,15 @@
 -- The loops over the rows that are printed: one turn, and the end.
-use Prim.Native.Nat.{ℕ, zero, suc, _+_, _*_, _-_, _≤_, _<_}
+use Prim.Native.Nat.{ℕ, _+_, _*_, _-_, _≤_, _<_}
 use native.Mathlib.Omega.{arith}
 use native.Mathlib.Numerals.{add-one}
 use mathlib.Core.Bool.{Bool, true, false}
-use mathlib.Core.List.{List, [], _∷_, _++_}
-use mathlib.Core.Path.{_≡_, refl, ap, sym, _∙_}
-use lib.Dec.{eqb}
-use lib.ListN.{length, take, drop, length-append, drop-of-length-le}
+use mathlib.Core.List.{List, [], _∷_}
+use mathlib.Core.Path.{_≡_, refl, sym, _∙_}
+use lib.ListN.{length, drop, length-append, drop-of-length-le}
 use lib.Seq.{drop-cons}
 use borrow.Author.Tests.{eq-eqb}
 use Rattle.reading.specs.First.{pick}
 use Rattle.reading.specs.Records.{memberFault, storeyFault}
-use Rattle.reading.specs.declared.records.Header.{Header}
 use Rattle.reading.specs.declared.records.Storey.{Storey}
 use Rattle.reading.specs.declared.records.Member.{Member}
 use Rattle.reading.proofs.Firsts.{pick-clear}
@@ -20,10 +18,9 @@ use Rattle.members.specs.declared.finding.Finding.{Finding}
 use Rattle.storeys.specs.declared.StoreyFinding.{StoreyFinding}
 use Rattle.storeys.specs.declared.StoreyAnswer.{StoreyAnswer}
 use Rattle.storeys.specs.Storey.{publishedRules, meetsWallShare, overShear, storeyFinding, countFault, knowledgeFault, shearFault, noMember, memberAt, rowFault, membersFault, storeyCallFault, storeyAnswerBy, storeyAnswer}
-use Rattle.storeys.specs.Building.{storeyAt, membersBefore, membersOf, buildingFault}
 use Rattle.storeys.proofs.Refusals.{None, one, rest, in-order-clear, first-clear}
-use Rattle.report.specs.Line.{line, stamped}
-use Rattle.report.specs.Sheet.{memberValues, storeyValues, buildingValues, memberLine, storeyLine, buildingLine, memberLines, storeyLines, storeysLines, findingIn}
+use Rattle.report.specs.Line.{stamped}
+use Rattle.report.specs.Sheet.{memberValues, storeyValues, buildingValues, memberLine, storeyLine, buildingLine, memberLines, storeyLines, findingIn}
 use Rattle.report.proofs.Stamps.{stamped-none, stamped-both, length-line}
 
 -- ---- lengths

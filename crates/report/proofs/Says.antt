@@ -1,6 +1,6 @@
 -- The contracts of the functions over rows, for their walks and for their callers' walks. Each is checked against the function's own
 -- clauses where the function is proved.
-use Prim.Native.Nat.{ℕ, _+_, _*_, _≤_}
+use Prim.Native.Nat.{_+_, _*_, _≤_}
 use mathlib.Core.Bool.{true}
 use mathlib.Core.List.{[], _∷_}
 use mathlib.Core.Path.{_≡_}

@@ -19,7 +19,7 @@ use Rattle.reading.proofs.Below.{and-right, every-at}
 use Rattle.reading.proofs.Files.{count-most}
 use Rattle.reading.proofs.Validity.{clear}
 use Rattle.storeys.specs.Totals.{total}
-use Rattle.storeys.specs.Storey.{publishedRules, meetsWallShare, overShear, countFault, knowledgeFault, shearFault, membersFault, storeyCallFault}
+use Rattle.storeys.specs.Storey.{publishedRules, countFault, knowledgeFault, membersFault, storeyCallFault}
 use Rattle.storeys.specs.Building.{storeyAt, membersBefore, membersOf, countsFault, storeyRowsFault, shearFaultAt, buildingFault}
 use Rattle.storeys.proofs.Refusals.{None, end, also, one, rest, in-order-clear, in-order-none, first-clear, count-clear}
 use Rattle.storeys.proofs.Accepted.{before-next, members-counted, known-level}

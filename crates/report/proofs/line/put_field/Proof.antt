@@ -1,5 +1,5 @@
-use Prim.Native.Nat.{ℕ, _+_, _-_, _*_, _≤_, _<_}
-use mathlib.Core.Path.{_≡_, refl, sym, _∙_}
+use Prim.Native.Nat.{_+_, _-_, _≤_}
+use mathlib.Core.Path.{_≡_, refl}
 use native.Mathlib.Omega.{arith}
 use borrow.Author.Needs.{needs}
 use lib.ListN.{length, length-set}
@@ -8,9 +8,6 @@ use Rattle.report.specs.Line.{stamped}
 use Rattle.report.proofs.Stamps.{field-next, field-end}
 use Rattle.report.proofs.line.put_field.Statement.{statement}
 use Rattle.report.proofs.line.put_field.Tie as tie
-use Rattle.report.proofs.line.put_field.Reads as reads
-use Rattle.report.proofs.line.put_field.Lts as lts
-use Rattle.reading.proofs.spelling.column_of.Reads as column-of-reads
 
 abbrev Inv-loop : tie.InvT-loop
 Inv-loop out₀ at n p₀ left₀ out p left = (left ≤ 12) × (p + left ≡ at + 12) × (length out ≡ length out₀) × (stamped out p (spelled left 32 n) ≡ stamped out₀ at (spelled 12 32 n))
@@ -18,41 +15,32 @@ Inv-loop out₀ at n p₀ left₀ out p left = (left ≤ 12) × (p + left ≡ at
 abbrev μ-loop : tie.MeasureT-loop
 μ-loop out₀ at n p₀ left₀ out p left = left
 
--- src/line.rt:31:5
 loop-holds : tie.Need-loop-holds Inv-loop μ-loop
 loop-holds c = (omega arith, refl, refl, refl)
 
--- src/line.rt:32:9
 sub-left : tie.Need-sub-left Inv-loop μ-loop
 sub-left c = search needs
 
--- src/line.rt:33:18
 column-of-requires : tie.Need-column-of-requires Inv-loop μ-loop
 column-of-requires c κs = search needs
 
--- src/line.rt:33:9
 slice-write-out : tie.Need-slice-write-out Inv-loop μ-loop
 slice-write-out c = omega arith
 
--- src/line.rt:34:9
 add-p : tie.Need-add-p Inv-loop μ-loop
 add-p c = search needs
 
--- src/line.rt:31:5
 loop-less : tie.Need-loop-less Inv-loop μ-loop
 loop-less c = search needs
 
--- src/line.rt:31:5
 loop-again : tie.Need-loop-again Inv-loop μ-loop
 loop-again c =
     let l = c .before .before .loop in
     (omega arith, omega arith, simp length-set (l .inv .2), field-next (l .out) _ (l .p) (l .left) _ (c .column-of .result) (l .inv .3) (c .before .loop-test .taken) (c .column-of .ensures))
 
--- src/line.rt:24:1
 same-length : tie.Need-same-length Inv-loop μ-loop
 same-length c = c .before .loop .inv .2
 
--- src/line.rt:24:1
 returns : tie.Need-returns Inv-loop μ-loop
 returns c =
     let l = c .before .loop in

@@ -1,5 +1,5 @@
-use Prim.Native.Nat.{ℕ, _+_, _-_, _*_, _≤_, _<_}
-use mathlib.Core.Path.{_≡_, refl, sym, _∙_}
+use Prim.Native.Nat.{_+_, _-_, _*_, _≤_}
+use mathlib.Core.Path.{_≡_, refl, _∙_}
 use native.Mathlib.Omega.{arith}
 use borrow.Author.Needs.{needs}
 use lib.ListN.{length, drop, getD}
@@ -9,10 +9,6 @@ use Rattle.report.specs.Line.{fields, stamped}
 use Rattle.report.proofs.Stamps.{kept-length, fields-next, fields-end, line-done}
 use Rattle.report.proofs.line.put_line.Statement.{statement}
 use Rattle.report.proofs.line.put_line.Tie as tie
-use Rattle.report.proofs.line.put_line.Reads as reads
-use Rattle.report.proofs.line.put_line.Lts as lts
-use Rattle.report.proofs.line.put_field.Reads as put-field-reads
-use Rattle.report.proofs.line.put_text.Reads as put-text-reads
 
 abbrev Inv-loop : tie.InvT-loop
 Inv-loop out₀ at tag values p₀ i₀ t7 out p i = (i ≤ length values) × (p ≡ p₀ + 12 * i) × (length out ≡ length out₀) × (stamped out p (fields (drop i values)) ≡ stamped out₀ p₀ (fields values))
@@ -20,23 +16,18 @@ Inv-loop out₀ at tag values p₀ i₀ t7 out p i = (i ≤ length values) × (p
 abbrev μ-loop : tie.MeasureT-loop
 μ-loop out₀ at tag values p₀ i₀ t7 out p i = length values - i
 
--- src/line.rt:45:9
 put-text-requires : tie.Need-put-text-requires Inv-loop μ-loop
 put-text-requires c κs = search needs
 
--- src/line.rt:47:5
 loop-holds : tie.Need-loop-holds Inv-loop μ-loop
 loop-holds c = (omega arith, omega arith, refl, refl)
 
--- src/line.rt:48:31
 mul-put-field : tie.Need-mul-put-field Inv-loop μ-loop
 mul-put-field c = search needs
 
--- src/line.rt:48:31
 shared-slice-read-put-field : tie.Need-shared-slice-read-put-field Inv-loop μ-loop
 shared-slice-read-put-field c = search needs
 
--- src/line.rt:48:9
 put-field-requires : tie.Need-put-field-requires Inv-loop μ-loop
 put-field-requires c κs =
     let l = c .before .before .before .loop in
@@ -44,15 +35,12 @@ put-field-requires c κs =
     let a = c .before .before .before .before .before .before .before .before .before .before .before .args in
     omega (arith, c .before .before .before .before .before .before .before .before .before .before .before .pre, l .inv .0, l .inv .1, l .inv .2, t .ensures .0, c .before .before .loop-test .taken, kept-length (t .last .0) (a .out .now) (a .at) (a .tag .now) (t .ensures .1))
 
--- src/line.rt:49:9
 add-i : tie.Need-add-i Inv-loop μ-loop
 add-i c = search needs
 
--- src/line.rt:47:5
 loop-less : tie.Need-loop-less Inv-loop μ-loop
 loop-less c = search needs
 
--- src/line.rt:47:5
 loop-again : tie.Need-loop-again Inv-loop μ-loop
 loop-again c =
     let l = c .before .before .before .before .before .before .loop in
@@ -65,11 +53,9 @@ loop-again c =
       fields-next (l .out) _ (f .last .0) (a .values .now) (l .p) (f .result) (l .i) (l .inv .3) (c .before .before .before .before .before .loop-test .taken) (f .ensures .1) (f .ensures .0),
     )
 
--- src/line.rt:51:22
 slice-aggregate-put-text : tie.Need-slice-aggregate-put-text Inv-loop μ-loop
 slice-aggregate-put-text c = search needs
 
--- src/line.rt:51:5
 put-text-requires-2 : tie.Need-put-text-requires-2 Inv-loop μ-loop
 put-text-requires-2 c κs =
     let l = c .before .before .before .loop in
@@ -77,7 +63,6 @@ put-text-requires-2 c κs =
     let a = c .before .before .before .before .before .before .before .before .before .before .before .args in
     omega (arith, c .before .before .before .before .before .before .before .before .before .before .before .pre, l .inv .0, l .inv .1, l .inv .2, t .ensures .0, kept-length (t .last .0) (a .out .now) (a .at) (a .tag .now) (t .ensures .1))
 
--- src/line.rt:40:1
 same-length : tie.Need-same-length Inv-loop μ-loop
 same-length c =
     let l = c .before .before .before .before .before .before .loop in
@@ -86,7 +71,6 @@ same-length c =
     let e = c .before .before .put-text2 in
     kept-length (e .last .0) (l .out) (l .p) (10 ∷ []) (e .ensures .1) ∙ l .inv .2 ∙ kept-length (t .last .0) (a .out .now) (a .at) (a .tag .now) (t .ensures .1)
 
--- src/line.rt:40:1
 returns : tie.Need-returns Inv-loop μ-loop
 returns c =
     let l = c .before .before .before .before .before .before .loop in

@@ -1,14 +1,12 @@
-use Prim.Native.Nat.{ℕ, _+_, _-_, _*_, _≤_, _<_}
-use mathlib.Core.Path.{_≡_, refl, sym, _∙_}
+use Prim.Native.Nat.{_+_, _-_, _≤_}
+use mathlib.Core.Path.{_≡_, refl}
 use native.Mathlib.Omega.{arith}
 use borrow.Author.Needs.{needs}
-use lib.ListN.{length, take, drop, getD, length-set}
+use lib.ListN.{length, drop, getD, length-set}
 use Rattle.report.specs.Line.{stamped}
 use Rattle.report.proofs.Stamps.{text-next, text-end}
 use Rattle.report.proofs.line.put_text.Statement.{statement}
 use Rattle.report.proofs.line.put_text.Tie as tie
-use Rattle.report.proofs.line.put_text.Reads as reads
-use Rattle.report.proofs.line.put_text.Lts as lts
 
 abbrev Inv-loop : tie.InvT-loop
 Inv-loop out₀ at text i₀ out i = (i ≤ length text) × (length out ≡ length out₀) × (stamped out (at + i) (drop i text) ≡ stamped out₀ at text)
@@ -16,31 +14,24 @@ Inv-loop out₀ at text i₀ out i = (i ≤ length text) × (length out ≡ leng
 abbrev μ-loop : tie.MeasureT-loop
 μ-loop out₀ at text i₀ out i = length text - i
 
--- src/line.rt:16:5
 loop-holds : tie.Need-loop-holds Inv-loop μ-loop
 loop-holds c = let e : c .args .at + 0 ≡ c .args .at = omega arith in (omega arith, refl, rw e)
 
--- src/line.rt:17:23
 shared-slice-read-out : tie.Need-shared-slice-read-out Inv-loop μ-loop
 shared-slice-read-out c = search needs
 
--- src/line.rt:17:13
 add-out : tie.Need-add-out Inv-loop μ-loop
 add-out c = search needs
 
--- src/line.rt:17:9
 slice-write-out : tie.Need-slice-write-out Inv-loop μ-loop
 slice-write-out c = omega arith
 
--- src/line.rt:18:9
 add-i : tie.Need-add-i Inv-loop μ-loop
 add-i c = search needs
 
--- src/line.rt:16:5
 loop-less : tie.Need-loop-less Inv-loop μ-loop
 loop-less c = search needs
 
--- src/line.rt:16:5
 loop-again : tie.Need-loop-again Inv-loop μ-loop
 loop-again c =
     let l = c .before .before .loop in
@@ -50,15 +41,12 @@ loop-again c =
       text-next (l .out) (a .out .now) (a .text .now) (a .at) (l .i) (getD (a .text .now) (l .i) 0) (l .inv .2) (c .before .loop-test .taken) refl,
     )
 
--- src/line.rt:20:5
 add-result : tie.Need-add-result Inv-loop μ-loop
 add-result c = search needs
 
--- src/line.rt:10:1
 same-length : tie.Need-same-length Inv-loop μ-loop
 same-length c = c .before .loop .inv .1
 
--- src/line.rt:10:1
 returns : tie.Need-returns Inv-loop μ-loop
 returns c =
     let l = c .before .loop in

@@ -2,22 +2,16 @@ use Rattle.report.proofs.Printing.{no-finding}
 use borrow.Author.Needs.{needs}
 use Rattle.report.proofs.printed.finding_in.Statement.{statement}
 use Rattle.report.proofs.printed.finding_in.Tie as tie
-use Rattle.report.proofs.printed.finding_in.Reads as reads
-use Rattle.report.proofs.printed.finding_in.Lts as lts
 
--- src/printed.rt:67:30
 enum-known-answer : tie.Need-enum-known-answer
 enum-known-answer c = search needs
 
--- src/printed.rt:68:37
 enum-told : tie.Need-enum-told
 enum-told c = search needs
 
--- src/printed.rt:62:1
 returns : tie.Need-returns
 returns c = search needs
 
--- src/printed.rt:62:1
 returns-2 : tie.Need-returns-2
 returns-2 c = no-finding (c .before .before .args .r .answer) _ (c .enum-told .given .1)
 

@@ -1,47 +1,34 @@
-use native.Mathlib.Omega.{arith}
-use mathlib.Core.Path.{_≡_, refl, ap, _∙_}
+use mathlib.Core.Path.{ap, _∙_}
 use Rattle.report.specs.Line.{stamped}
 use Rattle.report.proofs.Printing.{building-line-is, no-line}
 use borrow.Author.Needs.{needs}
 use Rattle.report.proofs.printed.put_building.Statement.{statement}
 use Rattle.report.proofs.printed.put_building.Tie as tie
-use Rattle.report.proofs.printed.put_building.Reads as reads
-use Rattle.report.proofs.printed.put_building.Lts as lts
-use Rattle.report.proofs.line.put_line.Reads as put-line-reads
-use Rattle.report.proofs.printed.flag.Reads as flag-reads
 
--- src/printed.rt:102:32
 enum-known-answer : tie.Need-enum-known-answer
 enum-known-answer c = search needs
 
--- src/printed.rt:103:27
 flag-requires : tie.Need-flag-requires
 flag-requires c κs = search needs
 
--- src/printed.rt:103:43
 flag-requires-2 : tie.Need-flag-requires-2
 flag-requires-2 c κs = search needs
 
--- src/printed.rt:104:31
 slice-aggregate-put-line : tie.Need-slice-aggregate-put-line
 slice-aggregate-put-line c = search needs
 
--- src/printed.rt:104:37
 slice-aggregate-put-line-2 : tie.Need-slice-aggregate-put-line-2
 slice-aggregate-put-line-2 c = search needs
 
--- src/printed.rt:104:13
 put-line-requires : tie.Need-put-line-requires
 put-line-requires c κs = search needs
 
 enum-told : tie.Need-enum-told
 enum-told c = search needs
 
--- src/printed.rt:96:1
 same-length : tie.Need-same-length
 same-length c = search needs
 
--- src/printed.rt:96:1
 returns : tie.Need-returns
 returns c =
     let a = c .before .before .before .before .before .before .before .before .before .before .before .before .args in
@@ -49,7 +36,6 @@ returns c =
     c .before .before .put-line .ensures .1
     ∙ ap (stamped (a .out .now) (a .at)) (building-line-is (c .before .before .before .before .before .before .before .flag .result) (c .before .before .before .before .before .before .flag2 .result) (a .r .answer) (g .0 .0) (g .1) (c .before .before .before .before .before .before .before .flag .ensures) (c .before .before .before .before .before .before .flag2 .ensures))
 
--- src/printed.rt:96:1
 returns-2 : tie.Need-returns-2
 returns-2 c = let a = c .before .before .before .args in no-line (a .out .now) (a .at) (a .r .answer) _ (c .enum-told .given .1)
 

@@ -1,41 +1,29 @@
 use native.Mathlib.Omega.{arith}
-use mathlib.Core.Path.{_≡_, refl, ap, _∙_}
+use mathlib.Core.Path.{ap, _∙_}
 use Rattle.report.specs.Line.{stamped}
 use Rattle.report.proofs.Printing.{member-line-is}
 use borrow.Author.Needs.{needs}
 use Rattle.report.proofs.printed.put_finding.Statement.{statement}
 use Rattle.report.proofs.printed.put_finding.Tie as tie
-use Rattle.report.proofs.printed.put_finding.Reads as reads
-use Rattle.report.proofs.printed.put_finding.Lts as lts
-use Rattle.members.proofs.class.Class.code.Reads as code-reads
-use Rattle.report.proofs.line.put_line.Reads as put-line-reads
-use Rattle.report.proofs.printed.flag.Reads as flag-reads
 
--- src/printed.rt:40:9
 code-requires : tie.Need-code-requires
 code-requires c κs = search needs
 
--- src/printed.rt:45:9
 flag-requires : tie.Need-flag-requires
 flag-requires c κs = search needs
 
--- src/printed.rt:47:23
 slice-aggregate-put-line : tie.Need-slice-aggregate-put-line
 slice-aggregate-put-line c = search needs
 
--- src/printed.rt:47:29
 slice-aggregate-put-line-2 : tie.Need-slice-aggregate-put-line-2
 slice-aggregate-put-line-2 c = search needs
 
--- src/printed.rt:47:5
 put-line-requires : tie.Need-put-line-requires
 put-line-requires c κs = search needs
 
--- src/printed.rt:32:1
 same-length : tie.Need-same-length
 same-length c = search needs
 
--- src/printed.rt:32:1
 returns : tie.Need-returns
 returns c =
     let a = c .before .before .before .before .before .before .before .before .before .args in

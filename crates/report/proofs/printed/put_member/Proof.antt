@@ -1,37 +1,25 @@
-use mathlib.Core.Path.{ap, _∙_}
-use Rattle.members.specs.declared.finding.Finding.{Finding}
+use Rattle.members.specs.Finding.{finding}
+use Rattle.report.proofs.Printing.{member-line-of}
 use Rattle.storeys.proofs.Rows.{finding-same, not-refused}
-use Rattle.report.specs.Line.{stamped}
-use Rattle.report.specs.Sheet.{memberLine}
 use borrow.Author.Needs.{needs}
 use Rattle.report.proofs.printed.put_member.Statement.{statement}
 use Rattle.report.proofs.printed.put_member.Tie as tie
-use Rattle.report.proofs.printed.put_member.Reads as reads
-use Rattle.report.proofs.printed.put_member.Lts as lts
-use Rattle.members.proofs.finding.judge_member.Reads as judge-member-reads
-use Rattle.report.proofs.printed.put_finding.Reads as put-finding-reads
 
--- src/printed.rt:56:11
 judge-member-requires : tie.Need-judge-member-requires
 judge-member-requires c κs = search needs
 
--- src/printed.rt:57:30
 enum-known-f : tie.Need-enum-known-f
 enum-known-f c = search needs
 
--- src/printed.rt:57:36
 put-finding-requires : tie.Need-put-finding-requires
 put-finding-requires c κs = search needs
 
--- src/printed.rt:58:37
 enum-told : tie.Need-enum-told
 enum-told c = search needs
 
--- src/printed.rt:51:1
 same-length : tie.Need-same-length
 same-length c = search needs
 
--- src/printed.rt:51:1
 returns : tie.Need-returns
 returns c =
     let a = c .before .before .before .before .before .before .before .before .before .args in
@@ -40,11 +28,9 @@ returns c =
     let g = c .before .before .before .before .before .f .given in
     let l = c .before .before .put-finding in (
       l .ensures .0,
-      l .ensures .1
-          ∙ ap (λ (f : Finding). stamped (a .out .now) (a .at) (memberLine (a .m .number) f)) (finding-same (a .k) (a .met) (a .m) (p .level) (p .good) (j .result) (g .0 .0) (j .ensures .0) (g .1)),
+      member-line-of (l .last .0) (a .out .now) (a .at) (a .m .number) (g .0 .0) (finding (a .k) (a .met) (a .m)) (l .ensures .1) (finding-same (a .k) (a .met) (a .m) (p .level) (p .good) (j .result) (g .0 .0) (j .ensures .0) (g .1)),
     )
 
--- src/printed.rt:51:1
 returns-2 : tie.Need-returns-2
 returns-2 c =
     let a = c .before .before .before .before .args in

@@ -3,11 +3,9 @@ use native.Mathlib.Omega.{arith}
 use lib.ListN.{length, drop}
 use borrow.Author.Tests.{ltb-true, ltb-false}
 use borrow.Kind.Bool.{bAt}
-use Rattle.storeys.specs.Storey.{noMember, memberAt}
-use Rattle.members.specs.Finding.{finding}
+use Rattle.storeys.specs.Storey.{noMember}
 use Rattle.report.specs.Line.{stamped}
-use Rattle.report.specs.Sheet.{memberLine, memberLines}
-use Rattle.report.proofs.Stamps.{kept-length}
+use Rattle.report.specs.Sheet.{memberLines}
 use Rattle.report.proofs.Rows.{member-good, members-next, members-end}
 use mathlib.Core.List.{List, [], _∷_}
 use mathlib.Core.Path.{_≡_, refl, _∙_}

@@ -1,15 +1,12 @@
-use Prim.Native.Nat.{ℕ, _+_, _*_, _≤_}
 use native.Mathlib.Omega.{arith}
-use lib.ListN.{length}
 use mathlib.Core.List.{[], _∷_}
 use borrow.Kind.Bool.{bAt}
 use Rattle.report.proofs.Rows.{storey-level, storey-rows, storey-found, storey-done}
-use mathlib.Core.Path.{_≡_, refl, _∙_}
+use mathlib.Core.Path.{refl, _∙_}
 use contract.Lifetimes.{Lfts, Shares}
 use contract.Running.{tablesOf}
 use mir.Syntax.{Ty, w8, w64, tyInt, tyRef, named, erased, imm, mut}
 use denote.Memory.{pointee}
-use borrow.Author.Needs.{needs}
 use borrow.Kind.MutSlice.{fix-len}
 use borrow.Fn.Args.{vAt}
 use borrow.Fn.World.{World}
@@ -17,7 +14,7 @@ use borrow.Rule.Slice.Mut.{msleft}
 use borrow.Rule.Slice.Relend.{asMut, msptr, mslice-owed}
 use borrow.Table.Row.{Cx, lease, off, alive, dead, sBool}
 use borrow.Table.Rows.{sc-here, any-gone}
-use Rattle.walk.proofs.Walk.{told, S, _⨾_, _▸_, at, slot, from, fld, sc, gone, old, forget, ret, same, u64}
+use Rattle.walk.proofs.Walk.{S, _⨾_, _▸_, at, slot, from, fld, sc, gone, old, forget, ret, same, u64}
 use Rattle.walk.proofs.Slice.{ty, R, kept, full, here, val-at, sh-at, sh-spares, sh-reads, mut-at, mut-is, mut-reads, slice, lend-on, back-on, owed-len}
 use Rattle.walk.proofs.Array.{begin, end, over}
 use Rattle.walk.proofs.Fn.{Callee, Knows, Body, Answers, entry, callee, knows, call, meets}

@@ -1,16 +1,15 @@
-use Prim.Native.Nat.{ℕ, _+_, _*_, _≤_}
+use Prim.Native.Nat.{_+_}
 use native.Mathlib.Omega.{arith}
 use lib.ListN.{length}
 use mathlib.Core.List.{[], _∷_}
 use borrow.Author.Tests.{eqb-true, eqb-false, not-true, not-false}
 use Rattle.report.proofs.Survey.{storeys-most, members-most}
 use Rattle.report.proofs.Called.{few, fault-is, answer-refused, returned-refused, buffer-refused, building-clear, room-enough, answer-written, returned-written, buffer-written}
-use mathlib.Core.Path.{_≡_, refl, _∙_}
+use mathlib.Core.Path.{refl, _∙_}
 use contract.Lifetimes.{Lfts, Shares}
 use contract.Running.{tablesOf}
 use mir.Syntax.{Ty, w8, w64, unsigned, add, ne, tyInt, tyRef, named, erased, imm, mut}
 use denote.Memory.{pointee}
-use borrow.Author.Needs.{needs}
 use borrow.Kind.MutSlice.{fix-len}
 use borrow.Fn.Args.{vAt}
 use borrow.Fn.World.{World}
