@@ -3,7 +3,6 @@ ghost use mathlib.Core.Path.{_≡_};
 ghost use Prim.Native.Nat.{ℕ, _<_};
 ghost use lib.ListN.{getD};
 ghost use Rattle.exports.specs.Words.{handed, put};
-ghost use Rattle.members.specs.Finding.{flag as flagOf};
 
 // Writes ten numbers to the front of a buffer that holds them, and else nothing.
 pub(crate) fn put_ten(out: &mut [u64], w: [u64; 10])
@@ -33,13 +32,4 @@ pub(crate) fn values_of(values: &[u64]) -> [u64; 26]
         j += 1;
     }
     vs
-}
-
-pub(crate) fn flag(b: bool) -> u64
-    ensures { λ r. ⌜ r ≡ flagOf b ⌝ }
-{
-    if b {
-        return 1;
-    }
-    0
 }

@@ -2,7 +2,7 @@
 ghost use mathlib.Core.Path.{_≡_};
 ghost use Prim.Native.Nat.{_≤_};
 ghost use Rattle.reading.specs.Valid.{Valid};
-ghost use Rattle.members.specs.Finding.{compression, axial, moment, stress, hoops, ratios, mDropped, exceeds, findingBy, knowledge, memberAnswer, returned, memberReturned};
+ghost use Rattle.members.specs.Finding.{flag, compression, axial, moment, stress, hoops, ratios, mDropped, exceeds, findingBy, knowledge, memberAnswer, returned, memberReturned};
 ghost use Rattle.members.specs.Sizes.{SizedSet};
 use crate::class::Class;
 use crate::class::class_of;
@@ -145,7 +145,8 @@ fn judge(s: LimitSet, k: u64, met: bool, m: Member) -> Finding
     }
 }
 
-fn known(k: u64) -> bool
+// 90 or 100.
+pub fn known(k: u64) -> bool
     ensures { λ r. ⌜ r ≡ knowledge k ⌝ }
 {
     if k == 90 {
@@ -167,4 +168,14 @@ pub fn judge_member(k: u64, met: bool, m: Member) -> MemberAnswer
     }
     let s = LimitSet::published();
     MemberAnswer::Judged(judge(s, k, met, m))
+}
+
+// A mark as it is printed, 0 or 1.
+pub fn flag(mark: bool) -> u64
+    ensures { λ r. ⌜ r ≡ flag mark ⌝ }
+{
+    if mark {
+        return 1;
+    }
+    0
 }

@@ -10,8 +10,8 @@ use crate::ReportJudgment;
 use crate::line::put_line;
 use members::finding::Finding;
 use members::finding::MemberAnswer;
+use members::finding::flag;
 use members::finding::judge_member;
-use reading::records::Header;
 use reading::records::Member;
 use reading::records::Storey;
 use storeys::BuildingAnswer;
@@ -19,15 +19,6 @@ use storeys::BuildingJudgment;
 use storeys::StoreyAnswer;
 use storeys::StoreyFinding;
 use storeys::StoreyJudgment;
-
-fn flag(mark: bool) -> u64
-    ensures { λ r. ⌜ r ≡ flag mark ⌝ }
-{
-    if mark {
-        return 1;
-    }
-    0
-}
 
 fn put_finding(out: &mut [u8], at: usize, number: u64, f: Finding) -> usize
     requires { ⌜ at + 86 ≤ length (now out) ⌝ }
@@ -76,12 +67,6 @@ pub(crate) fn finding_in(r: StoreyJudgment) -> StoreyFinding
     }
 }
 
-pub(crate) fn storey_count(s: Storey) -> usize
-    ensures { λ r. ⌜ r ≡ s .count ⌝ }
-{
-    s.count as usize
-}
-
 // The 0.40 condition of a storey.
 pub(crate) fn walls_of(f: StoreyFinding) -> bool
     ensures { λ r. ⌜ r ≡ f .walls ⌝ }
@@ -128,12 +113,6 @@ pub(crate) fn report_fault(r: BuildingJudgment, storeys: usize, members: usize, 
         }
         BuildingAnswer::Refused(n) => n,
     }
-}
-
-pub(crate) fn knowledge_of(h: Header) -> u64
-    ensures { λ r. ⌜ r ≡ h .knowledge ⌝ }
-{
-    h.knowledge
 }
 
 pub(crate) fn refused_report(number: u64) -> ReportJudgment

@@ -10,20 +10,20 @@ ghost use Rattle.report.specs.Line.{stamped};
 ghost use Rattle.report.specs.Sheet.{memberLines, storeyLines, storeysLines, reportAnswer, returnedReport, reportReturned, bufferAfter};
 use crate::ReportJudgment;
 use crate::printed::finding_in;
-use crate::printed::knowledge_of;
 use crate::printed::put_building;
 use crate::printed::put_member;
 use crate::printed::put_storey;
 use crate::printed::refused_report;
 use crate::printed::report_fault;
-use crate::printed::storey_count;
 use crate::printed::walls_of;
 use crate::printed::written_report;
 use reading::records::Header;
 use reading::records::Member;
 use reading::records::Storey;
 use storeys::building::judge_building;
+use storeys::row::storey_count;
 use storeys::storey::judge_storey;
+use storeys::verdict::level_of;
 
 // The lines of some good members, judged with k and the 0.40 condition of their storey.
 fn put_members(out: &mut [u8], at: usize, k: u64, met: bool, rows: &[Member]) -> usize
@@ -57,7 +57,7 @@ fn put_storeys(out: &mut [u8], h: Header, storeys: &[Storey], members: &[Member]
     ensures { λ r. ⌜ r ≡ 86 * length (now (members .entry)) + 74 * length (now (storeys .entry)) ⌝ }
     ensures { λ _. ⌜ now (out .exit) ≡ stamped (now (out .entry)) 0 (storeysLines (h .knowledge) (now (storeys .entry)) (now (members .entry)) 0 (length (now (storeys .entry)))) ⌝ }
 {
-    let k = knowledge_of(h);
+    let k = level_of(h);
     let mut p = 0;
     let mut a = 0;
     let mut i = 0;

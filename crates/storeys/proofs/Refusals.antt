@@ -1,16 +1,15 @@
 -- Where there is no refusal, none of the checks refuses.
 use Prim.Native.Nat.{ℕ, zero, suc, _<_}
 use native.Mathlib.Omega.{arith}
-use native.Mathlib.Nat.{not-suc-le-zero, eq-or-lt-of-le, le-of-suc-le-suc}
 use mathlib.Core.Bool.{Bool, true, false}
 use mathlib.Core.List.{List, [], _∷_, _++_}
-use mathlib.Core.Logic.{⊎-elim}
 use mathlib.Core.Path.{_≡_, refl}
 use lib.Dec.{eqb}
 use lib.ListN.{length, getD}
 use borrow.Author.Tests.{eqb-true, eqb-false, eq-eqb}
 use Rattle.reading.specs.First.{pick, inOrder, first}
 use Rattle.reading.specs.Survey.{listed}
+use Rattle.reading.proofs.Firsts as Firsts
 use Rattle.reading.proofs.Validity.{clear}
 use Rattle.storeys.specs.Storey.{countFault}
 use Rattle.storeys.proofs.Pairs.{All, empty, next}
@@ -42,11 +41,7 @@ pub rest : {a : ℕ} {later : List ℕ} → None (a ∷ later) → None later
 rest (also e later) = later
 
 pub first-clear : (f : ℕ → ℕ) (n : ℕ) → first 0 (λ r. r) f n ≡ 0 → (i : ℕ) → i < n → f i ≡ 0
-unfolding first
-first-clear f zero e i h = absurd (not-suc-le-zero h)
-first-clear f (suc n) e i h =
-    let c = chosen-clear (eqb (first 0 (λ r. r) f n) 0) (first 0 (λ r. r) f n) (f n) refl e in
-    ⊎-elim (λ (q : i ≡ n). rw q (c .1)) (λ (l : i < n). first-clear f n (c .0) i l) (eq-or-lt-of-le (le-of-suc-le-suc h))
+first-clear f n e i h = Firsts.first-clear 0 (λ r. r) f n i e h
 
 pub count-clear : (count rows : ℕ) → countFault count rows ≡ 0 → count ≡ rows
 count-clear count rows e = eqb-true count rows (clear (eqb count rows) 0 1 e (omega arith) .0)

@@ -15,6 +15,7 @@ use crate::StoreyJudgment;
 use members::class::is_wall;
 use members::finding::MemberAnswer;
 use members::finding::judge_member;
+use members::finding::known;
 use members::tables::SHARE_FALL;
 use members::tables::SHARE_FROM;
 use members::tables::SHARE_TO;
@@ -47,7 +48,7 @@ pub(crate) fn storey_number(s: Storey) -> u64
     s.number
 }
 
-pub(crate) fn storey_count(s: Storey) -> usize
+pub fn storey_count(s: Storey) -> usize
     ensures { λ r. ⌜ r ≡ s .count ⌝ }
 {
     s.count as usize
@@ -149,15 +150,6 @@ fn add_finding(t: Tally, over: bool, nd: u64, m: Member) -> Tally
     }
 }
 
-fn knows(k: u64) -> bool
-    ensures { λ r. ⌜ r ≡ knowledge k ⌝ }
-{
-    if k == 90 {
-        return true;
-    }
-    k == 100
-}
-
 // The refusals of the call on a storey before its members': 1, k's 3, the storey's 3.
 pub(crate) fn head_fault(k: u64, s: Storey, rows: usize) -> u64
     ensures { λ r. ⌜ r ≡ headFault k s rows ⌝ }
@@ -165,7 +157,7 @@ pub(crate) fn head_fault(k: u64, s: Storey, rows: usize) -> u64
     if s.count != rows as u64 {
         return 1;
     }
-    if !knows(k) {
+    if !known(k) {
         return 3;
     }
     storey_fault(s)

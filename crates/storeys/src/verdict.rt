@@ -67,7 +67,7 @@ pub(crate) fn noted(v: Verdict, place: usize, f: StoreyFinding) -> Verdict
     }
 }
 
-pub(crate) fn level_of(h: Header) -> u64
+pub fn level_of(h: Header) -> u64
     ensures { λ r. ⌜ r ≡ h .knowledge ⌝ }
 {
     h.knowledge
@@ -100,7 +100,7 @@ fn is_tilted(h: Header) -> bool
 fn building_risky(place: u64, tilted: bool) -> bool
     ensures { λ r. ⌜ r ≡ (ltb 0 place || tilted) ⌝ }
 {
-    if 0 < place {
+    if 1 <= place {
         return true;
     }
     tilted

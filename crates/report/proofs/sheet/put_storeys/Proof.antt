@@ -27,14 +27,14 @@ use Rattle.walk.proofs.Slice.{ty, sh-at, R, kept, full, here, sh-ptr, sh-len, v
 use Rattle.walk.proofs.Array.{begin, end, over}
 use Rattle.walk.proofs.Fn.{Callee, Knows, Body, Answers, entry, callee, knows, call, meets}
 use Rattle.reading.proofs.Structs.{header, member, storey}
-use Rattle.report.proofs.printed.knowledge_of.Met as knowledge-of-met
-use Rattle.report.proofs.printed.knowledge_of.Symbol as knowledge-of-symbol
-use Rattle.report.proofs.printed.knowledge_of.Kinds as knowledge-of-kinds
-use Rattle.report.proofs.printed.knowledge_of.Reads as knowledge-of-reads
-use Rattle.report.proofs.printed.storey_count.Met as storey-count-met
-use Rattle.report.proofs.printed.storey_count.Symbol as storey-count-symbol
-use Rattle.report.proofs.printed.storey_count.Kinds as storey-count-kinds
-use Rattle.report.proofs.printed.storey_count.Reads as storey-count-reads
+use Rattle.storeys.proofs.verdict.level_of.Met as level-of-met
+use Rattle.storeys.proofs.verdict.level_of.Symbol as level-of-symbol
+use Rattle.storeys.proofs.verdict.level_of.Kinds as level-of-kinds
+use Rattle.storeys.proofs.verdict.level_of.Reads as level-of-reads
+use Rattle.storeys.proofs.row.storey_count.Met as storey-count-met
+use Rattle.storeys.proofs.row.storey_count.Symbol as storey-count-symbol
+use Rattle.storeys.proofs.row.storey_count.Kinds as storey-count-kinds
+use Rattle.storeys.proofs.row.storey_count.Reads as storey-count-reads
 use Rattle.report.proofs.sheet.put_storey_lines.Met as put-storey-lines-met
 use Rattle.report.proofs.sheet.put_storey_lines.Symbol as put-storey-lines-symbol
 use Rattle.report.proofs.Says as Says
@@ -43,8 +43,8 @@ use Rattle.report.proofs.sheet.put_storeys.Code
 use Rattle.report.proofs.sheet.put_storeys.Key
 use Rattle.report.proofs.sheet.put_storeys.Statement.{statement}
 
-abbrev the-knowledge-of : Callee
-the-knowledge-of = record { n = 0; ps = knowledge-of-kinds.ps; r = knowledge-of-kinds.r; asked = knowledge-of-reads.Asked; learnt = knowledge-of-reads.Learnt; name = knowledge-of-symbol.name }
+abbrev the-level-of : Callee
+the-level-of = record { n = 0; ps = level-of-kinds.ps; r = level-of-kinds.r; asked = level-of-reads.Asked; learnt = level-of-reads.Learnt; name = level-of-symbol.name }
 
 abbrev the-storey-count : Callee
 the-storey-count = record { n = 0; ps = storey-count-kinds.ps; r = storey-count-kinds.r; asked = storey-count-reads.Asked; learnt = storey-count-reads.Learnt; name = storey-count-symbol.name }
@@ -53,7 +53,7 @@ abbrev the-put-storey-lines : Callee
 the-put-storey-lines = callee Says.put-storey-lines put-storey-lines-symbol.name
 
 abbrev K : S → Type 1
-K s = Knows the-knowledge-of s × Knows the-storey-count s × Knows the-put-storey-lines s
+K s = Knows the-level-of s × Knows the-storey-count s × Knows the-put-storey-lines s
 
 abbrev τ16 : Ty
 τ16 = tyRef erased mut (tyInt w8)
@@ -78,7 +78,7 @@ cx3 κs qs = at 1 (mslice-owed bytes (tyRef (named 0) mut (tyInt w8)) 0 3 (lease
 
 abbrev body : Body Says.put-storeys K 1 Code.function
 body κs qs bs =
-    call the-knowledge-of (λ s k. k .0) 5 [] (val-at 2 (λ x. x), tt) (λ s. ((here header .is s, refl), tt)) gone tt refl ⨾
+    call the-level-of (λ s k. k .0) 5 [] (val-at 2 (λ x. x), tt) (λ s. ((here header .is s, refl), tt)) gone tt refl ⨾
     forget 2 (full header) ▸
     set 6 u64 (lit w64 0 tt) gone refl (λ u. refl) (λ u. tt) ⨾
     set 7 u64 (lit w64 0 tt) gone refl (λ u. refl) (λ u. tt) ⨾
@@ -213,7 +213,7 @@ pub put-storeys-spec : {M : Type 1} → statement M
 unfolding Code.routine tablesOf
 put-storeys-spec {M} 𝓤 H 𝓜 𝓖 𝓡 = let w : World = record { M = M; 𝓤 = 𝓤; H = H; 𝓜 = 𝓜; 𝓖 = 𝓖; 𝓡 = 𝓡 } in
     meets Says.put-storeys K 1 Code.function body answers w Code.env Key.name (Code.unfolded 𝓤 H 𝓜 𝓡) (
-      knowledge-of-reads.known w Code.env knowledge-of-symbol.name knowledge-of-symbol.routine Code.calls-report·printed·knowledge-of (knowledge-of-met.met 𝓤 H 𝓜 𝓖 𝓡),
-      storey-count-reads.known w Code.env storey-count-symbol.name storey-count-symbol.routine Code.calls-report·printed·storey-count (storey-count-met.met 𝓤 H 𝓜 𝓖 𝓡),
+      level-of-reads.known w Code.env level-of-symbol.name level-of-symbol.routine Code.calls-storeys·verdict·level-of (level-of-met.met 𝓤 H 𝓜 𝓖 𝓡),
+      storey-count-reads.known w Code.env storey-count-symbol.name storey-count-symbol.routine Code.calls-storeys·row·storey-count (storey-count-met.met 𝓤 H 𝓜 𝓖 𝓡),
       knows Says.put-storey-lines w Code.env put-storey-lines-symbol.name put-storey-lines-symbol.routine Code.calls-report·sheet·put-storey-lines (put-storey-lines-met.met 𝓤 H 𝓜 𝓖 𝓡),
     )

@@ -9,18 +9,18 @@ use Rattle.storeys.proofs.row.head_fault.Tie as tie
 returns : tie.Need-returns
 returns c = simp (ne-eqb _ _ (c .if1 .taken))
 
-knows-requires : tie.Need-knows-requires
-knows-requires c κs = search needs
+known-requires : tie.Need-known-requires
+known-requires c κs = search needs
 
 returns-2 : tie.Need-returns-2
-returns-2 c = simp (eq-eqb _ _ (c .before .before .if1 .left), sym (c .before .knows .ensures) ∙ not-true _ (c .if2 .taken))
+returns-2 c = simp (eq-eqb _ _ (c .before .before .if1 .left), sym (c .before .known .ensures) ∙ not-true _ (c .if2 .taken))
 
 storey-fault-requires : tie.Need-storey-fault-requires
 storey-fault-requires c κs = search needs
 
 returns-3 : tie.Need-returns-3
-returns-3 c = c .storey-fault .ensures ∙ simp (eq-eqb _ _ (c .before .before .before .if1 .left), sym (c .before .before .knows .ensures) ∙ not-false _ (c .before .if2 .left), last-of)
+returns-3 c = c .storey-fault .ensures ∙ simp (eq-eqb _ _ (c .before .before .before .if1 .left), sym (c .before .before .known .ensures) ∙ not-false _ (c .before .if2 .left), last-of)
 
 pub head-fault-spec : {M : Type 1} → statement M
 head-fault-spec =
-    tie.close (tie.spec returns knows-requires returns-2 storey-fault-requires returns-3)
+    tie.close (tie.spec returns known-requires returns-2 storey-fault-requires returns-3)
