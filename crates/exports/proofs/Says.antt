@@ -16,6 +16,7 @@ use Rattle.walk.proofs.Slice.{R}
 use Rattle.reading.proofs.Structs.{member, storey}
 use Rattle.reading.specs.Lines.{headerBy, storeyBy}
 use Rattle.storeys.specs.Storey.{storeyReturned}
+use Rattle.report.specs.Sheet.{reportReturned, bufferAfter}
 use Rattle.exports.specs.Words.{words as wordsOf, handed, put, ten, BuildingWritten}
 
 abbrev pub bytes : RattleType
@@ -46,4 +47,13 @@ llunareth-judge-building = record {
   requires = λ κs a. [];
   ensures = λ κs a z e.
       BuildingWritten (headerBy (handed (a .0 .now))) (a .1 .0 .now) (a .1 .1 .0 .now) (a .1 .1 .1 .0 .now) (e .1 .1 .1 .0 .now) ∷ [];
+}
+
+abbrev pub llunareth-report : Plain {n = 5} (pShrS words 0 tt ∷ pShrS (R storey) 1 tt ∷ pShrS (R member) 2 tt ∷ pMutS bytes 3 tt ∷ pMutS words 4 tt ∷ []) rUnit
+llunareth-report = record {
+  requires = λ κs a. [];
+  ensures = λ κs a z e.
+      (e .1 .1 .1 .1 .0 .now ≡ put (ten (reportReturned (headerBy (handed (a .0 .now))) (a .1 .0 .now) (a .1 .1 .0 .now) (length (a .1 .1 .1 .0 .now)))) (a .1 .1 .1 .1 .0 .now))
+      ∷ (e .1 .1 .1 .0 .now ≡ bufferAfter (headerBy (handed (a .0 .now))) (a .1 .0 .now) (a .1 .1 .0 .now) (a .1 .1 .1 .0 .now))
+      ∷ [];
 }

@@ -108,7 +108,7 @@ pub extern "C" fn llunareth_judge_storey(
     put_storey(out, r);
 }
 
-fn header_given(values: &[u64]) -> Header
+pub(crate) fn header_given(values: &[u64]) -> Header
     ensures { λ r. ⌜ r ≡ headerBy (handed (now (values .entry))) ⌝ }
 {
     let vs = values_of(values);

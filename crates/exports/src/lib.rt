@@ -2,4 +2,5 @@
 pub mod judge_calls;
 pub mod reading_call;
 pub mod record_checks;
+pub mod report_calls;
 pub mod words;

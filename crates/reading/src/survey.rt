@@ -304,7 +304,7 @@ pub(crate) fn count_of(r: Storey) -> usize
 }
 
 // How many S lines an accepted file has; 0 of a refused one.
-pub(crate) fn storeys_read(r: Reading) -> usize
+pub fn storeys_read(r: Reading) -> usize
     ensures { λ n. ⌜ n ≡ storeysTold (tells (r .answer)) ⌝ }
 {
     let a = r.answer;

@@ -126,7 +126,7 @@ module _ (h : Header) (ss : List Storey) (ms : List Member) (before : List ℕ) 
     pub building-clear : buildingFault publishedRules h ss ms ≡ 0
     building-clear = one none-of-both
 
-    sheet-fits : length (sheet h ss ms) ≤ length before
+    pub sheet-fits : length (sheet h ss ms) ≤ length before
     sheet-fits = leb-true (length (sheet h ss ms)) (length before) (clear (leb (length (sheet h ss ms)) (length before)) 0 9 (one (rest none-of-both)) (omega arith) .0)
 
     pub room-enough : sizeOf (length ss) (length ms) ≤ length before

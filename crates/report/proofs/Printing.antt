@@ -1,7 +1,8 @@
 -- The lines of one record, and the refusals of the report call, by what the judging calls answer.
 use Prim.Native.Nat.{ℕ, _≤_, _<_}
 use mathlib.Core.List.{List, [], _∷_}
-use mathlib.Core.Path.{_≡_}
+use mathlib.Core.Path.{_≡_, refl}
+use lib.ListN.{length}
 use borrow.Author.Tests.{le-leb, lt-leb}
 use Rattle.members.specs.Class.{code}
 use Rattle.members.specs.Finding.{flag}
@@ -13,7 +14,8 @@ use Rattle.storeys.specs.declared.BuildingFinding.{BuildingFinding}
 use Rattle.storeys.specs.declared.BuildingAnswer.{BuildingAnswer}
 use Rattle.storeys.specs.declared.BuildingAnswer.the-variants as building-answer
 use Rattle.report.specs.Line.{line, stamped}
-use Rattle.report.specs.Sheet.{memberLine, storeyLine, buildingLine, lineOf, noFinding, findingIn, faultBy, sizeOf, Few}
+use Rattle.report.proofs.Stamps.{length-line}
+use Rattle.report.specs.Sheet.{memberLine, storeyLine, buildingLine, refusalLine, lineOf, noFinding, findingIn, faultBy, sizeOf, Few}
 
 pub member-line-is : (number c o : ℕ) (f : Finding) → c ≡ code (f .class) → o ≡ flag (f .over) → line (77 ∷ []) (number ∷ c ∷ f .m .0 ∷ f .«m_limit» .0 ∷ f .rotation .0 ∷ f .«rotation_limit» .0 ∷ o ∷ []) ≡ memberLine number f
 unfolding memberLine
@@ -29,6 +31,14 @@ storey-line-is number r f e = rw e
 pub building-line-is : (t r : ℕ) (a : BuildingAnswer) (f : BuildingFinding) → a ≡ building-answer.Judged f → t ≡ flag (f .tilted) → r ≡ flag (f .risky) → line (66 ∷ []) (t ∷ r ∷ []) ≡ lineOf a
 unfolding buildingLine
 building-line-is t r a f e g h = rw (e, g, h)
+
+pub refusal-line-is : (refusal place : ℕ) → line (69 ∷ []) (refusal ∷ place ∷ []) ≡ refusalLine refusal place
+unfolding refusalLine
+refusal-line-is refusal place = refl
+
+pub length-refusal-line : (refusal place : ℕ) → length (refusalLine refusal place) ≡ 26
+unfolding refusalLine
+length-refusal-line refusal place = length-line (69 ∷ []) (refusal ∷ place ∷ [])
 
 pub no-line : (bytes : List ℕ) (at : ℕ) (a : BuildingAnswer) (n : ℕ) → a ≡ building-answer.Refused n → bytes ≡ stamped bytes at (lineOf a)
 unfolding stamped

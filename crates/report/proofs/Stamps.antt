@@ -7,7 +7,8 @@ use mathlib.Core.Path.{_≡_, refl, ap, sym, _∙_}
 use lib.ListN.{length, drop, set, getD, length-set, length-append, drop-of-length-le}
 use lib.Seq.{drop-cons, set-append-seam, append-snoc}
 use Rattle.reading.specs.Spelling.{column, spelled}
-use Rattle.report.specs.Line.{fields, line, stamped}
+use borrow.Author.Tests.{le-leb, lt-leb}
+use Rattle.report.specs.Line.{fields, line, stamped, atFront, putLength}
 
 pub length-stamped : (xs bytes : List ℕ) (at : ℕ) → length (stamped bytes at xs) ≡ length bytes
 unfolding stamped
@@ -43,6 +44,20 @@ stamped-after (x ∷ xs) before (b ∷ bytes) h =
 
 pub stamped-front : (xs bytes : List ℕ) → length xs ≤ length bytes → stamped bytes 0 xs ≡ xs ++ drop (length xs) bytes
 stamped-front xs bytes h = stamped-after xs [] bytes h
+
+-- a text that fits, and one that does not
+module _ (text bytes : List ℕ) where
+  pub front-put : length text ≤ length bytes → stamped bytes 0 text ≡ atFront text bytes
+  front-put h = stamped-front text bytes h ∙ rw (le-leb _ _ h)
+
+  pub put-whole : length text ≤ length bytes → length text ≡ putLength text (length bytes)
+  put-whole h = rw (le-leb _ _ h)
+
+  pub front-kept : length bytes < length text → bytes ≡ atFront text bytes
+  front-kept h = rw (lt-leb _ _ h)
+
+  pub put-none : length bytes < length text → 0 ≡ putLength text (length bytes)
+  put-none h = rw (lt-leb _ _ h)
 
 -- ---- the loops
 

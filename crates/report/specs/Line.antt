@@ -1,7 +1,9 @@
 -- A line of the printed sheet (document 01, "The printed sheet": "Tag, then fields of 12 columns written likewise"), and bytes put in the place of others.
 use Prim.Native.Nat.{ℕ, _+_}
 use mathlib.Core.List.{List, [], _∷_, _++_}
-use lib.ListN.{set}
+use lib.Dec.{leb}
+use lib.ListN.{length, drop, set}
+use Rattle.reading.specs.First.{pick}
 use Rattle.reading.specs.Spelling.{spelled}
 
 -- numbers in fields of 12 columns, one after another
@@ -17,3 +19,11 @@ line tag ns = tag ++ (fields ns ++ (10 ∷ []))
 unfoldable pub stamped : List ℕ → ℕ → List ℕ → List ℕ
 stamped bytes at [] = bytes
 stamped bytes at (x ∷ xs) = stamped (set bytes at x) (at + 1) xs
+
+-- a text put from the front of some bytes, those after it as they were; where it does not fit, all as they were
+abbrev pub atFront : List ℕ → List ℕ → List ℕ
+atFront text bytes = pick (leb (length text) (length bytes)) (text ++ drop (length text) bytes) bytes
+
+-- how many bytes are put then
+abbrev pub putLength : List ℕ → ℕ → ℕ
+putLength text room = pick (leb (length text) room) (length text) 0

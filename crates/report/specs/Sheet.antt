@@ -55,6 +55,10 @@ storeyLine number f = line (83 ∷ []) (storeyValues number f)
 unfoldable pub buildingLine : Bool → Bool → List ℕ
 buildingLine tilt risky = line (66 ∷ []) (buildingValues tilt risky)
 
+-- "one line `E` with refusal and line": tagged `E` (69)
+unfoldable pub refusalLine : ℕ → ℕ → List ℕ
+refusalLine refusal place = line (69 ∷ []) (refusal ∷ place ∷ [])
+
 -- the `M` lines of some members, judged with k and the 0.40 condition of their storey
 unfoldable pub memberLines : ℕ → Bool → List Member → List ℕ
 memberLines k met [] = []

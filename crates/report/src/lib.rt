@@ -2,6 +2,7 @@
 
 pub mod line;
 pub mod printed;
+pub mod refusal_line;
 pub mod sheet;
 
 // The sheet's length, or the refusal by its number.

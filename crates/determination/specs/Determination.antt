@@ -1,0 +1,29 @@
+-- What `determine` prints (document 01, "The printed sheet"): "The program `determine` reads up to 65,536 bytes of standard input, lends rows for 320 members and
+-- 10 storeys, prints the sheet, or one line `E` with refusal and line; a longer input prints `E` with 8 and 0".
+use Prim.Native.Nat.{ℕ}
+use mathlib.Core.List.{List}
+use lib.Dec.{leb, eqb}
+use lib.ListN.{length}
+use Rattle.reading.specs.First.{pick}
+use Rattle.reading.specs.Survey.{Outcome, accepted, refused, survey}
+use Rattle.report.specs.Sheet.{sheet, reportFault, refusalLine}
+
+abbrev pub inputMost : ℕ
+inputMost = 65_536
+
+abbrev pub storeyRows : ℕ
+storeyRows = 10
+
+abbrev pub memberRows : ℕ
+memberRows = 320
+
+-- "the sheet, or one line `E` with refusal and line": what a read file comes to, for a buffer of so many bytes
+unfoldable pub text : Outcome → ℕ → List ℕ
+text (accepted h ss ms) room =
+    pick (eqb (reportFault h ss ms room) 0) (sheet h ss ms) (refusalLine (reportFault h ss ms room) 0)
+text (refused n line) room = refusalLine n line
+
+-- the same of an input of any length: "a longer input prints `E` with 8 and 0"
+unfoldable pub printed : List ℕ → ℕ → List ℕ
+printed input room =
+    pick (leb (length input) inputMost) (text (survey input storeyRows memberRows) room) (refusalLine 8 0)

@@ -1,0 +1,45 @@
+// From the bytes of a survey file to the bytes of the sheet, or of the `E` line (document 01, "The printed sheet"). The length of the longest input and the numbers
+// of rows that are lent stand here alone.
+ghost use mathlib.Core.Path.{_≡_};
+ghost use lib.ListN.{length};
+ghost use Rattle.report.specs.Line.{atFront, putLength};
+ghost use Rattle.determination.specs.Determination.{storeyRows, memberRows, text, printed};
+ghost use Rattle.reading.specs.Survey.{survey};
+use crate::answers::blank_member;
+use crate::answers::blank_storey;
+use crate::answers::finish;
+use crate::answers::header_in;
+use crate::answers::members_in;
+use reading::rows::read;
+use reading::survey::storeys_read;
+use report::refusal_line::write_refusal;
+use report::sheet::write_report;
+
+pub mod answers;
+
+const INPUT_MOST: usize = 65_536;
+
+// An input that is not too long: a refused one has a blank header and no rows, of which the report call writes nothing.
+fn determine_file(input: &[u8], out: &mut [u8]) -> usize
+    ensures { λ r. ⌜ r ≡ putLength (text (survey (now (input .entry)) storeyRows memberRows) (length (now (out .entry)))) (length (now (out .entry))) ⌝ }
+    ensures { λ _. ⌜ now (out .exit) ≡ atFront (text (survey (now (input .entry)) storeyRows memberRows) (length (now (out .entry)))) (now (out .entry)) ⌝ }
+{
+    let mut storeys = [blank_storey(); 10];
+    let mut members = [blank_member(); 320];
+    let r = read(input, &mut storeys, &mut members);
+    let n = storeys_read(r);
+    let m = members_in(r);
+    let a = write_report(header_in(r), &storeys[..n], &members[..m], out);
+    finish(out, r, a)
+}
+
+// The sheet of a survey file, or its `E` line, from the front of the bytes; gives its length. Where the line does not fit, nothing and 0.
+pub fn determine(input: &[u8], out: &mut [u8]) -> usize
+    ensures { λ r. ⌜ r ≡ putLength (printed (now (input .entry)) (length (now (out .entry)))) (length (now (out .entry))) ⌝ }
+    ensures { λ _. ⌜ now (out .exit) ≡ atFront (printed (now (input .entry)) (length (now (out .entry)))) (now (out .entry)) ⌝ }
+{
+    if INPUT_MOST < input.len() {
+        return write_refusal(out, 8, 0);
+    }
+    determine_file(input, out)
+}

@@ -1,0 +1,146 @@
+use mathlib.Core.List.{[], _∷_}
+use mathlib.Core.Path.{refl, ap, _∙_}
+use lib.ListN.{length}
+use contract.Lifetimes.{Lfts, Shares}
+use contract.Running.{tablesOf}
+use mir.Syntax.{Ty, w8, w64, tyInt, tyRef, named, erased, imm, mut}
+use denote.Memory.{pointee}
+use borrow.Kind.MutSlice.{fix-len}
+use borrow.Fn.World.{World}
+use borrow.Rule.Slice.Mut.{mslice, msleft}
+use borrow.Rule.Slice.Relend.{asMut, mslice-owed}
+use borrow.Table.Row.{Cx, lease, off, alive, dead, sUnit}
+use Rattle.walk.proofs.Walk.{S, _⨾_, _▸_, at, slot, from, set, unit, fld, gone, old, forget, ret, same}
+use Rattle.walk.proofs.Slice.{R, kept, full, here, val-at, sh-at, sh-spares, sh-reads, mut-at, mut-is, mut-reads, slice, lend-on, back-on, owed-len}
+use Rattle.walk.proofs.Array.{begin, end, over}
+use Rattle.walk.proofs.Fn.{Callee, Knows, Body, Answers, entry, callee, knows, call, meets}
+use Rattle.report.proofs.Structs.{reportjudgment}
+use Rattle.reading.specs.declared.records.Header.{Header}
+use Rattle.reading.proofs.Structs.{header, member, storey}
+use Rattle.members.specs.Finding.{Returned}
+use Rattle.report.specs.Sheet.{reportReturned, bufferAfter}
+use Rattle.exports.specs.Words.{put, ten}
+use Rattle.exports.proofs.Says as Says
+use Rattle.exports.proofs.Says.{bytes, words}
+use Rattle.exports.proofs.judge_calls.header_given.Met as header-given-met
+use Rattle.exports.proofs.judge_calls.header_given.Symbol as header-given-symbol
+use Rattle.exports.proofs.judge_calls.header_given.Kinds as header-given-kinds
+use Rattle.exports.proofs.judge_calls.header_given.Reads as header-given-reads
+use Rattle.report.proofs.sheet.write_report.Met as write-report-met
+use Rattle.report.proofs.sheet.write_report.Symbol as write-report-symbol
+use Rattle.report.proofs.Says as report-Says
+use Rattle.exports.proofs.report_calls.put_report.Met as put-report-met
+use Rattle.exports.proofs.report_calls.put_report.Symbol as put-report-symbol
+use Rattle.exports.proofs.report_calls.put_report.Kinds as put-report-kinds
+use Rattle.exports.proofs.report_calls.put_report.Reads as put-report-reads
+use Rattle.exports.proofs.report_calls.llunareth_report.Code
+use Rattle.exports.proofs.report_calls.llunareth_report.Key
+use Rattle.exports.proofs.report_calls.llunareth_report.Statement.{statement}
+
+abbrev the-header-given : Callee
+the-header-given = record { n = 1; ps = header-given-kinds.ps; r = header-given-kinds.r; asked = header-given-reads.Asked; learnt = header-given-reads.Learnt; name = header-given-symbol.name }
+
+abbrev the-write-report : Callee
+the-write-report = callee report-Says.write-report write-report-symbol.name
+
+abbrev the-put-report : Callee
+the-put-report = record { n = 1; ps = put-report-kinds.ps; r = put-report-kinds.r; asked = put-report-reads.Asked; learnt = put-report-reads.Learnt; name = put-report-symbol.name }
+
+abbrev K : S → Type 1
+K s = Knows the-header-given s × Knows the-write-report s × Knows the-put-report s
+
+abbrev τ1 : Ty
+τ1 = tyRef (named 0) imm (tyInt w64)
+
+abbrev τ2 : Ty
+τ2 = tyRef (named 1) imm (pointee (R storey .written))
+
+abbrev τ3 : Ty
+τ3 = tyRef (named 2) imm (pointee (R member .written))
+
+abbrev τ9 : Ty
+τ9 = tyRef erased mut (tyInt w8)
+
+abbrev τ12 : Ty
+τ12 = tyRef erased mut (tyInt w64)
+
+abbrev start : Lfts 5 → Shares 5 → Cx
+start κs qs = entry Says.llunareth-report K 2 Code.function κs qs
+
+-- the bytes are lent to the report call
+abbrev cx1 : Lfts 5 → Shares 5 → Cx
+cx1 κs qs = at 4 (mslice-owed bytes (tyRef (named 3) mut (tyInt w8)) 3 5 (lease (κs .1 .1 .1 .0) (qs .1 .1 .1 .0))) (at 6 (kept header) (at 9 (mslice bytes τ9 5) (slot 3 off (slot 5 alive (start κs qs)))))
+
+-- it has returned
+abbrev cx2 : Lfts 5 → Shares 5 → Cx
+cx2 κs qs = at 4 (mslice-owed bytes (tyRef (named 3) mut (tyInt w8)) 3 5 (lease (κs .1 .1 .1 .0) (qs .1 .1 .1 .0))) (at 7 (kept reportjudgment) (at 9 (msleft bytes τ9) (slot 3 off (slot 5 dead (start κs qs)))))
+
+-- the numbers are lent
+abbrev cx3 : Lfts 5 → Shares 5 → Cx
+cx3 κs qs = at 5 (mslice-owed words (tyRef (named 4) mut (tyInt w64)) 4 6 (lease (κs .1 .1 .1 .1 .0) (qs .1 .1 .1 .1 .0))) (at 7 (kept reportjudgment) (at 12 (mslice words τ12 6) (slot 4 off (slot 6 alive (start κs qs)))))
+
+-- they are put
+abbrev cx4 : Lfts 5 → Shares 5 → Cx
+cx4 κs qs = at 5 (mslice-owed words (tyRef (named 4) mut (tyInt w64)) 4 6 (lease (κs .1 .1 .1 .1 .0) (qs .1 .1 .1 .1 .0))) (at 12 (msleft words τ12) (slot 4 off (slot 6 dead (start κs qs))))
+
+abbrev body : Body Says.llunareth-report K 2 Code.function
+body κs qs bs =
+    call the-header-given (λ s k. k .0) 6 (0 ∷ []) (sh-at 1 τ1 (λ x. x), tt) (λ s. (sh-spares s words τ1 0, sh-reads s words τ1 0, refl, tt)) gone (tt, tt) refl ⨾
+    begin 5 (tt, (tt, (tt, (tt, (tt, (tt, (tt, (tt, (tt, (tt, (tt, (tt, (tt, tt))))))))))))) ▸
+    lend-on bytes 8 4 3 5 same gone tt refl refl (λ b o. tt) ⨾
+    slice bytes (asMut bytes) 9 8 5 (fld 4 1 (owed-len bytes 3 5 (lease (κs .1 .1 .1 .0) (qs .1 .1 .1 .0))) refl) same gone refl refl (λ b o k. tt) ⨾
+    from (cx1 κs qs) (call the-write-report (λ s k. k .1) 7 (1 ∷ 2 ∷ 5 ∷ []) (val-at 6 (λ x. x), (sh-at 2 τ2 (λ x. x), (sh-at 3 τ3 (λ x. x), (mut-at 9 τ9 (λ x. x), tt)))) (λ s. ((here header .is s, refl), (sh-spares s (R storey) τ2 1, sh-reads s (R storey) τ2 1, refl, (sh-spares s (R member) τ3 2, sh-reads s (R member) τ3 2, refl, (mut-is s bytes τ9 5, mut-reads s bytes τ9 5, refl, tt))))) gone (tt, (tt, (tt, tt))) refl ⨾
+    forget 6 (full header) ▸
+    end 5 refl ▸
+    from (cx2 κs qs) (back-on bytes 9 4 3 5 (lease (κs .1 .1 .1 .0) (qs .1 .1 .1 .0)) same same refl refl ▸
+    over 5 ▸
+    begin 6 (tt, (tt, (tt, (tt, (tt, (tt, (tt, (tt, (tt, (tt, (tt, (tt, (tt, tt))))))))))))) ▸
+    lend-on words 11 5 4 6 same gone tt refl refl (λ b o. tt) ⨾
+    slice words (asMut words) 12 11 6 (fld 5 1 (owed-len words 4 6 (lease (κs .1 .1 .1 .1 .0) (qs .1 .1 .1 .1 .0))) refl) same gone refl refl (λ b o k. tt) ⨾
+    from (cx3 κs qs) (call the-put-report (λ s k. k .2) 10 (6 ∷ []) (mut-at 12 τ12 (λ x. x), (val-at 7 (λ x. x), tt)) (λ s. (mut-is s words τ12 6, mut-reads s words τ12 6, refl, ((here reportjudgment .is s, refl), tt))) gone (tt, tt) refl ⨾
+    forget 7 (full reportjudgment) ▸
+    forget 10 (old sUnit) ▸
+    end 6 refl ▸
+    from (cx4 κs qs) (back-on words 12 5 4 6 (lease (κs .1 .1 .1 .1 .0) (qs .1 .1 .1 .1 .0)) same same refl refl ▸
+    over 6 ▸
+    set 0 sUnit unit gone refl (λ u. refl) (λ u. tt) ⨾
+    ret tt))))
+
+answers : Answers Says.llunareth-report K 2 Code.function body
+answers κs qs a good pre bs = (
+  λ _. tt,
+  λ h. λ γ. (
+    refl,
+    (
+      λ _. tt,
+      λ r. (
+        refl,
+        λ back. λ γ. (
+          refl,
+          (
+            λ _. tt,
+            λ p. (
+              refl,
+              λ last. (
+                (refl, (refl, (refl, (fix-len (a .1 .1 .1 .0 .ptr) (a .1 .1 .1 .0 .name) (r .2 .1 .1 .1 .0) (a .1 .1 .1 .0 .now) back, (fix-len (a .1 .1 .1 .1 .0 .ptr) (a .1 .1 .1 .1 .0 .name) (p .2 .0) (a .1 .1 .1 .1 .0 .now) last, tt))))),
+                (
+                  p .5 ∙ ap (λ (t : Returned). put (ten t) (a .1 .1 .1 .1 .0 .now)) (r .5 .1 .0 ∙ ap (λ (x : Header). reportReturned x (a .1 .0 .now) (a .1 .1 .0 .now) (length (a .1 .1 .1 .0 .now))) (h .5)),
+                  r .5 .1 .1 ∙ ap (λ (x : Header). bufferAfter x (a .1 .0 .now) (a .1 .1 .0 .now) (a .1 .1 .1 .0 .now)) (h .5),
+                ),
+              ),
+            ),
+          ),
+        ),
+      ),
+    ),
+  ),
+)
+
+pub llunareth-report-spec : {M : Type 1} → statement M
+unfolding Code.routine tablesOf
+llunareth-report-spec {M} 𝓤 H 𝓜 𝓖 𝓡 = let w : World = record { M = M; 𝓤 = 𝓤; H = H; 𝓜 = 𝓜; 𝓖 = 𝓖; 𝓡 = 𝓡 } in
+    meets Says.llunareth-report K 2 Code.function body answers w Code.env Key.name (Code.unfolded 𝓤 H 𝓜 𝓡) (
+      header-given-reads.known w Code.env header-given-symbol.name header-given-symbol.routine Code.calls-exports·judge-calls·header-given (header-given-met.met 𝓤 H 𝓜 𝓖 𝓡),
+      knows report-Says.write-report w Code.env write-report-symbol.name write-report-symbol.routine Code.calls-report·sheet·write-report (write-report-met.met 𝓤 H 𝓜 𝓖 𝓡),
+      put-report-reads.known w Code.env put-report-symbol.name put-report-symbol.routine Code.calls-exports·report-calls·put-report (put-report-met.met 𝓤 H 𝓜 𝓖 𝓡),
+    )
