@@ -2,8 +2,10 @@
 use Prim.Native.Nat.{ℕ, zero, suc, _+_, _*_, _-_, _≤_, _<_}
 use native.Mathlib.Omega.{arith}
 use native.Mathlib.Numerals.{add-one}
+use mathlib.Core.Bool.{Bool, true, false}
 use mathlib.Core.List.{List, [], _∷_, _++_, append-assoc}
 use mathlib.Core.Path.{_≡_, refl, ap, sym, _∙_}
+use lib.Dec.{leb}
 use lib.ListN.{length, drop, set, getD, length-set, length-append, drop-of-length-le}
 use lib.Seq.{drop-cons, set-append-seam, append-snoc}
 use Rattle.reading.specs.Spelling.{column, spelled}
@@ -58,6 +60,14 @@ module _ (text bytes : List ℕ) where
 
   pub put-none : length bytes < length text → 0 ≡ putLength text (length bytes)
   put-none h = rw (lt-leb _ _ h)
+
+  put-within-by : (t : Bool) → leb (length text) (length bytes) ≡ t → putLength text (length bytes) ≤ length (atFront text bytes)
+  put-within-by true e = rw e (omega (arith, length-append text (drop (length text) bytes)))
+  put-within-by false e = rw e (omega arith)
+
+  -- what was put lies in the bytes
+  pub put-within : (n : ℕ) (after : List ℕ) → n ≡ putLength text (length bytes) → after ≡ atFront text bytes → n ≤ length after
+  put-within n after e f = rw (e, f) (put-within-by (leb (length text) (length bytes)) refl)
 
 -- ---- the loops
 

@@ -1,0 +1,37 @@
+use lib.ListN.{replicate}
+use Rattle.determination.specs.Determination.{printed}
+use mathlib.Core.Path.{sym}
+use lib.Seq.{length-take-le}
+use Rattle.report.proofs.Stamps.{put-within}
+use borrow.Author.Needs.{needs}
+use Rattle.determine.proofs.print.Statement.{statement}
+use Rattle.determine.proofs.print.Tie as tie
+
+slice-aggregate-determine : tie.Need-slice-aggregate-determine
+slice-aggregate-determine c = search needs
+
+determine-requires : tie.Need-determine-requires
+determine-requires c κs = search needs
+
+array-share-prefix-sheet : tie.Need-array-share-prefix-sheet
+array-share-prefix-sheet c = put-within (printed (c .before .before .before .before .args .input .now) 28286) (replicate 28286 0) _ _ (c .before .determine .ensures .0) (c .before .determine .ensures .1)
+
+slice-aggregate-write-all : tie.Need-slice-aggregate-write-all
+slice-aggregate-write-all c = sym (length-take-le _ _ (put-within (printed (c .before .before .before .before .before .args .input .now) 28286) (replicate 28286 0) _ _ (c .before .before .determine .ensures .0) (c .before .before .determine .ensures .1)))
+
+write-all-requires : tie.Need-write-all-requires
+write-all-requires c κs = search needs
+
+returns : tie.Need-returns
+returns c = search needs
+
+pub print-spec : {M : Type 1} → statement M
+print-spec =
+    tie.close
+    (tie.spec
+    slice-aggregate-determine
+    determine-requires
+    array-share-prefix-sheet
+    slice-aggregate-write-all
+    write-all-requires
+    returns)
