@@ -1,4 +1,6 @@
 //! The proved library called from Rust, and its answers as the independent program's types.
+pub mod samples;
+
 use independent::{Header, Member, MemberFinding, Refusal, Storey, StoreyFinding, Survey};
 
 /// A storey as the proved library lays it out.
@@ -45,6 +47,19 @@ extern "C" {
         out: *mut u64,
         out_len: usize,
     );
+    fn llunareth_report(
+        header: *const u64,
+        header_len: usize,
+        storeys: *const StoreyRow,
+        storeys_len: usize,
+        members: *const MemberRow,
+        members_len: usize,
+        sheet: *mut u8,
+        sheet_len: usize,
+        out: *mut u64,
+        out_len: usize,
+    );
+    fn llunareth_determine(input: *const u8, input_len: usize, out: *mut u8, out_len: usize) -> usize;
 }
 
 const ZERO_FORCE: i128 = 1_000_000;
@@ -156,6 +171,16 @@ pub fn member_rows(members: &[Member]) -> Option<Vec<MemberRow>> {
     members.iter().map(|m| member_numbers(m).map(MemberRow)).collect()
 }
 
+/// The storeys as rows.
+pub fn storey_rows(storeys: &[Storey]) -> Vec<StoreyRow> {
+    storeys.iter().map(|s| StoreyRow([s.number, s.shear, s.member_count])).collect()
+}
+
+/// The stored numbers of a header.
+pub fn header_numbers(h: &Header) -> [u64; 6] {
+    h.fields().map(|v| v as u64)
+}
+
 /// The proved call on a storey.
 pub fn judge_storey(k: u64, s: &Storey, rows: &[MemberRow]) -> Result<StoreyFinding, Refusal> {
     let storey = [s.number, s.shear, s.member_count];
@@ -186,8 +211,8 @@ pub struct Building {
 
 /// The proved call on a building.
 pub fn judge_building(h: &Header, storeys: &[Storey], rows: &[MemberRow]) -> Result<Building, Refusal> {
-    let header = h.fields().map(|v| v as u64);
-    let storeys: Vec<StoreyRow> = storeys.iter().map(|s| StoreyRow([s.number, s.shear, s.member_count])).collect();
+    let header = header_numbers(h);
+    let storeys = storey_rows(storeys);
     let mut out = [u64::MAX; 10];
     unsafe {
         llunareth_judge_building(
@@ -204,6 +229,38 @@ pub fn judge_building(h: &Header, storeys: &[Storey], rows: &[MemberRow]) -> Res
     let v = answer(out)?;
     assert_eq!(v[3..], [0; 5]);
     Ok(Building { tilt_above: v[0] == 1, risky: v[1] == 1, place: v[2] })
+}
+
+/// The proved report call: the sheet goes to the front of `sheet`, and `out` gets its ten numbers if they fit.
+pub fn report_into(header: &[u64], storeys: &[StoreyRow], members: &[MemberRow], sheet: &mut [u8], out: &mut [u64]) {
+    unsafe {
+        llunareth_report(
+            header.as_ptr(),
+            header.len(),
+            storeys.as_ptr(),
+            storeys.len(),
+            members.as_ptr(),
+            members.len(),
+            sheet.as_mut_ptr(),
+            sheet.len(),
+            out.as_mut_ptr(),
+            out.len(),
+        );
+    }
+}
+
+/// The proved report call: the length of the sheet in `sheet`.
+pub fn report(h: &Header, storeys: &[Storey], rows: &[MemberRow], sheet: &mut [u8]) -> Result<usize, Refusal> {
+    let mut out = [u64::MAX; 10];
+    report_into(&header_numbers(h), &storey_rows(storeys), rows, sheet, &mut out);
+    let v = answer(out)?;
+    assert_eq!(v[1..], [0; 7]);
+    Ok(v[0] as usize)
+}
+
+/// The proved call from a file's bytes to the bytes printed for it: how many of them stand in `out`.
+pub fn determine(input: &[u8], out: &mut [u8]) -> usize {
+    unsafe { llunareth_determine(input.as_ptr(), input.len(), out.as_mut_ptr(), out.len()) }
 }
 
 /// Judges a member by both programs and panics where they differ; the refusal, if it is one.
@@ -242,6 +299,89 @@ pub fn same_building(survey: &Survey) -> Option<Refusal> {
         }
     }
 }
+
+/// The bytes of a sheet: 86 for each member, 74 for each storey, 26 for the building.
+pub fn sheet_len(survey: &Survey) -> usize {
+    86 * survey.members.len() + 74 * survey.storeys.len() + 26
+}
+
+/// Bytes beyond a lent buffer, looked at after each call.
+const BEYOND: usize = 64;
+
+/// A buffer before a call: bytes that no sheet has.
+pub fn pattern(len: usize) -> Vec<u8> {
+    (0..len).map(|i| 128 + (i % 127) as u8).collect()
+}
+
+/// Panics unless a buffer that held the pattern now has `front` from its front, and the pattern after it.
+fn assert_filled(buffer: &[u8], front: &[u8]) {
+    let mut expected = pattern(buffer.len());
+    expected[..front.len()].copy_from_slice(front);
+    let differs = (0..buffer.len()).find(|&i| buffer[i] != expected[i]);
+    assert_eq!(differs, None, "the place of a byte that differs; due from the front:\n{}", String::from_utf8_lossy(front));
+}
+
+/// Writes the report by both programs into so many bytes and panics where they differ; the refusal, if it is one.
+pub fn same_report(survey: &Survey, len: usize) -> Option<Refusal> {
+    let rows = member_rows(&survey.members)?;
+    let expected = independent::report(&survey.header, &survey.storeys, &survey.members, len);
+    let mut buffer = pattern(len + BEYOND);
+    let found = report(&survey.header, &survey.storeys, &rows, &mut buffer[..len]);
+    let (length, sheet) = match &expected {
+        Ok(sheet) => (Ok(sheet.len()), &sheet[..]),
+        Err(refusal) => (Err(*refusal), &[][..]),
+    };
+    assert_eq!(found, length, "{len} bytes: {survey:?}");
+    assert_filled(&buffer, sheet);
+    expected.err()
+}
+
+/// The printed line `E`.
+pub fn refusal_line(number: u8, line: u64) -> Vec<u8> {
+    format!("E{number:>12}{line:>12}\n").into_bytes()
+}
+
+/// The refusal that a printed line `E` tells; `None` for a sheet.
+pub fn refusal_told(printed: &[u8]) -> Option<Refusal> {
+    let text = std::str::from_utf8(printed).expect("text").strip_prefix('E')?;
+    let (number, line) = text.trim().split_once(' ').expect("two fields");
+    Some(Refusal::at(number.parse().expect("a number"), line.trim().parse().expect("a number")))
+}
+
+/// What is put into so many bytes: all that is printed, else the line `E` with 9 and 0, else nothing.
+fn fitting(printed: Vec<u8>, len: usize) -> Vec<u8> {
+    [printed, refusal_line(9, 0)].into_iter().find(|bytes| bytes.len() <= len).unwrap_or_default()
+}
+
+/// Determines a file by both programs into so many bytes and panics where they differ; what was put there.
+pub fn same_determine(input: &[u8], len: usize) -> Vec<u8> {
+    let expected = fitting(independent::determine(input), len);
+    let mut out = pattern(len + BEYOND);
+    let length = determine(input, &mut out[..len]);
+    assert_eq!(length, expected.len(), "{len} bytes for a file of {}:\n{}", input.len(), String::from_utf8_lossy(input));
+    assert_filled(&out, &expected);
+    expected
+}
+
+/// Document 01's worked example.
+pub fn worked_example() -> Survey {
+    let fields =
+        [1, 300, 300, 90_000, 100, 110, 2_200, 270, 3_000, 200, 250, 100, 0, 0, 0, 100, 0, 3_150, 3_150, 600, 200, 60, 100, 200, 9_000, 0];
+    let first = Member::from_fields(&fields);
+    Survey {
+        header: Header::from_fields(&[100, 9_000, 3, 0, 0, 1]),
+        storeys: vec![Storey { number: 1, shear: 1_000, member_count: 2 }],
+        members: vec![first, Member { number: 2, n_d: 3_600, m_e: 400, v: 700, ..first }],
+    }
+}
+
+/// The sheet that document 01 prints for it.
+pub const WORKED_SHEET: &str = "\
+M           1           2       30000       25909        9000       12500           1
+M           2           2       20000       25909        9000       12500           0
+S           1        7500           2         200        1000           1
+B           0           1
+";
 
 /// A column that is good, with n = N_K, n_D = N_D, rho 3,250 and neither marks nor demand.
 pub fn plain_column() -> Member {

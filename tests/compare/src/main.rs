@@ -1,9 +1,9 @@
 //! Compares the proved library with the independent program on generated files and records: compare SEED COUNT
-use compare::{same_building, same_member, same_storey};
-use generator::{any_file, edge_member_for, lent_rows, valid_survey, wild_member, wild_survey, Rng};
+use compare::{same_building, same_determine, same_member, same_report, same_storey, sheet_len};
+use generator::{any_file, edge_member_for, lent_bytes, lent_rows, valid_survey, wild_member, wild_survey, Rng};
 use independent::Survey;
 
-/// The files on which the reading calls differ.
+/// The files on which the reading calls differ. Each is determined as well, in a buffer of some length.
 fn compare_files(rng: &mut Rng, count: u64) -> u64 {
     let mut differences = 0;
     for _ in 0..count {
@@ -13,12 +13,15 @@ fn compare_files(rng: &mut Rng, count: u64) -> u64 {
             differences += 1;
             println!("differs, {storeys} and {members} rows:\n{}", String::from_utf8_lossy(&bytes));
         }
+        let length = independent::determine(&bytes).len();
+        same_determine(&bytes, lent_bytes(rng, length));
     }
     differences
 }
 
-/// A survey through the calls on a building and on each of its storeys whose members are there.
-fn compare_survey(survey: &Survey) {
+/// A survey through the report call, the call on a building and that on each of its storeys whose members are there.
+fn compare_survey(rng: &mut Rng, survey: &Survey) {
+    same_report(survey, lent_bytes(rng, sheet_len(survey)));
     same_building(survey);
     let mut rest = &survey.members[..];
     for s in &survey.storeys {
@@ -38,10 +41,11 @@ fn main() {
         let met = rng.chance(50);
         same_member(k, met, &edge_member_for(&mut rng, k));
         same_member(k, met, &wild_member(&mut rng));
-        compare_survey(&valid_survey(&mut rng));
-        compare_survey(&wild_survey(&mut rng));
+        let (valid, wild) = (valid_survey(&mut rng), wild_survey(&mut rng));
+        compare_survey(&mut rng, &valid);
+        compare_survey(&mut rng, &wild);
     }
-    println!("seed {seed}: {count} files, {differences} differences; members, storeys and buildings agree");
+    println!("seed {seed}: {count} files, {differences} differences; members, storeys, buildings, reports and printed sheets agree");
     if differences > 0 {
         std::process::exit(1);
     }

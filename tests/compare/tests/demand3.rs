@@ -66,14 +66,6 @@ fn worse(rng: &mut Rng, k: u64, m: &Member) -> Member {
     n
 }
 
-fn shuffled(rng: &mut Rng, n: usize) -> Vec<usize> {
-    let mut order: Vec<usize> = (0..n).collect();
-    for i in (1..n).rev() {
-        order.swap(i, rng.below(i as u64 + 1) as usize);
-    }
-    order
-}
-
 fn over(k: u64, met: bool, m: &Member) -> bool {
     judge_member(k, met, &member_numbers(m).unwrap(), 0).expect("a good member").over
 }
@@ -89,11 +81,11 @@ fn a_worse_survey_in_another_order_never_clears() {
         let mut header = first.header;
         header.tilt_1 = more(&mut rng, header.tilt_1, MOST);
         header.tilt_2 = more(&mut rng, header.tilt_2, MOST);
-        let storey_order = shuffled(&mut rng, one.len());
+        let storey_order = rng.order(one.len());
         let mut two = Vec::new();
         let mut member_orders = Vec::new();
         for &i in &storey_order {
-            let order = shuffled(&mut rng, one[i].members.len());
+            let order = rng.order(one[i].members.len());
             let mut members = Vec::new();
             for (at, &j) in order.iter().enumerate() {
                 let mut n = worse(&mut rng, k, &one[i].members[j]);

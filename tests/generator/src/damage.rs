@@ -508,3 +508,15 @@ fn up_to_refusal(bytes: &[u8], lines: &Lines) -> (usize, usize) {
         before(b'M'),
     )
 }
+
+/// The length of a buffer to lend for so many bytes: just enough, more, one
+/// too few, any fewer, or about the length of the line `E`.
+pub fn lent_bytes(rng: &mut Rng, length: usize) -> usize {
+    match rng.below(8) {
+        0..=2 => length,
+        3 => length + 1 + rng.index(300),
+        4 | 5 => length.saturating_sub(1),
+        6 => rng.index(length + 1),
+        _ => rng.pick(&[0, 1, 25, 26, 27]),
+    }
+}

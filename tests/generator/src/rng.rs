@@ -40,6 +40,15 @@ impl Rng {
         from[self.index(from.len())]
     }
 
+    /// The numbers below the count in any order.
+    pub fn order(&mut self, count: usize) -> Vec<usize> {
+        let mut order: Vec<usize> = (0..count).collect();
+        for i in (1..count).rev() {
+            order.swap(i, self.index(i + 1));
+        }
+        order
+    }
+
     /// The value, or one beside it.
     pub fn beside(&mut self, value: i128) -> i128 {
         value + self.pick(&[-1, 0, 0, 1])

@@ -3,7 +3,7 @@
 use generator::*;
 use independent::records::{check_header, check_member, check_storey};
 use independent::{determine, judge_building, judge_member, judge_storey, read, report};
-use std::collections::BTreeMap;
+use std::collections::{BTreeMap, BTreeSet};
 
 #[test]
 fn same_seed_same_input() {
@@ -514,4 +514,20 @@ fn edge_members_are_valid() {
         let m = edge_member(&mut Rng::new(seed));
         assert_eq!(check_member(&m), Ok(()));
     }
+}
+
+#[test]
+fn every_row_is_met() {
+    let mut seen = BTreeSet::new();
+    for s in surveys_at_rows() {
+        assert!(judge_building(&s.header, &s.storeys, &s.members).is_ok());
+        for m in &s.members {
+            let f = judge_member(s.header.knowledge, false, m).unwrap();
+            assert_eq!((f.n as i64, f.m), (m.n_k, m.m_e));
+            let across = if f.class <= 3 { m.a_sh } else { m.v_e };
+            seen.insert((f.class, f.n, across, m.boundary_zone));
+        }
+    }
+    let places = |class| seen.iter().filter(|place| place.0 == class).count();
+    assert_eq!([1, 2, 3, 4, 5].map(places), [12, 72, 6, 72, 6]);
 }

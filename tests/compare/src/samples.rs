@@ -1,0 +1,34 @@
+//! The sample surveys, each with its sheet beside it.
+use std::fs;
+use std::path::{Path, PathBuf};
+
+pub struct Sample {
+    pub name: String,
+    pub survey: Vec<u8>,
+    pub sheet: Vec<u8>,
+}
+
+/// The folder of the samples.
+pub fn folder() -> PathBuf {
+    Path::new(env!("CARGO_MANIFEST_DIR")).join("../../samples")
+}
+
+/// The names of the files with an ending, in order.
+pub fn names(ending: &str) -> Vec<String> {
+    let entries = fs::read_dir(folder()).expect("the folder samples");
+    let files = entries.map(|entry| entry.expect("a file").file_name().into_string().expect("a plain name"));
+    let mut names: Vec<String> = files.filter_map(|file| file.strip_suffix(ending).map(String::from)).collect();
+    names.sort();
+    names
+}
+
+/// All samples, in the order of their names.
+pub fn all() -> Vec<Sample> {
+    names(".survey").into_iter().map(sample).collect()
+}
+
+fn sample(name: String) -> Sample {
+    let bytes = |ending| fs::read(folder().join(format!("{name}{ending}"))).unwrap_or_else(|e| panic!("{name}{ending}: {e}"));
+    let (survey, sheet) = (bytes(".survey"), bytes(".sheet"));
+    Sample { name, survey, sheet }
+}

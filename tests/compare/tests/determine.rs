@@ -1,0 +1,247 @@
+//! `determine`, as a call and as a program, against the independent program, byte by byte.
+use compare::{refusal_line, refusal_told, same_determine, samples, worked_example, WORKED_SHEET};
+use generator::{any_file, damage, lent_bytes, surveys_at_rows, valid_survey, write_survey, Rng};
+use std::collections::BTreeSet;
+use std::io::{ErrorKind, Write};
+use std::path::{Path, PathBuf};
+use std::process::{ChildStdin, Command, Stdio};
+use std::thread::sleep;
+use std::time::Duration;
+
+const SEED: u64 = 20_260_119;
+/// The most bytes that are read as a survey.
+const INPUT_MOST: usize = 65_536;
+/// More bytes than any sheet of such a file has.
+const ROOM: usize = 30_000;
+
+/// The lines at which each refusal came up, and how many files were accepted.
+#[derive(Default)]
+struct Seen {
+    accepted: u32,
+    lines: [BTreeSet<u64>; 9],
+}
+
+impl Seen {
+    fn note(&mut self, printed: &[u8]) {
+        match refusal_told(printed) {
+            None => self.accepted += 1,
+            Some(told) => self.lines[told.number as usize].extend([told.line]),
+        }
+    }
+
+    /// At how many lines each refusal from 1 to 8 came up.
+    fn counts(&self) -> [usize; 8] {
+        std::array::from_fn(|i| self.lines[i + 1].len())
+    }
+}
+
+// ---- the call ----
+
+#[test]
+fn generated_files_good_and_damaged() {
+    let mut rng = Rng::new(SEED);
+    let mut seen = Seen::default();
+    for _ in 0..20_000 {
+        seen.note(&same_determine(&any_file(&mut rng), ROOM));
+    }
+    let counts = seen.counts();
+    assert!(counts[..6].iter().all(|&n| n >= 20), "refusals 1 to 6 at many lines: {counts:?}");
+    assert_eq!((&seen.lines[7], &seen.lines[8]), (&BTreeSet::from([1]), &BTreeSet::from([0])));
+    assert!(seen.accepted > 5_000, "{} accepted", seen.accepted);
+}
+
+/// A good file of about a hundred members or more.
+fn large_file(rng: &mut Rng) -> Vec<u8> {
+    loop {
+        let bytes = write_survey(&valid_survey(rng));
+        if bytes.len() > 20_000 {
+            return bytes;
+        }
+    }
+}
+
+#[test]
+fn large_files() {
+    let mut rng = Rng::new(SEED + 1);
+    let mut seen = Seen::default();
+    let mut longest = 0;
+    for _ in 0..300 {
+        let bytes = large_file(&mut rng);
+        longest = longest.max(bytes.len());
+        assert_eq!(refusal_told(&same_determine(&bytes, ROOM)), None);
+        seen.note(&same_determine(&damage(&mut rng, &bytes), ROOM));
+    }
+    assert!(longest > INPUT_MOST - 210, "the longest file has {longest} bytes");
+    assert!(seen.lines[2].len() > 20, "{:?}", seen.counts());
+}
+
+#[test]
+fn every_row_of_the_tables() {
+    for survey in surveys_at_rows() {
+        let printed = same_determine(&write_survey(&survey), ROOM);
+        assert_eq!(refusal_told(&printed), None);
+    }
+}
+
+/// A buffer one byte short of the sheet, exact ones and longer ones, and those about the line `E`.
+#[test]
+fn buffers_of_every_length() {
+    let mut rng = Rng::new(SEED + 2);
+    let mut nines = 0;
+    for _ in 0..2_500 {
+        let bytes = any_file(&mut rng);
+        let len = same_determine(&bytes, ROOM).len();
+        let nine = same_determine(&bytes, len - 1) == refusal_line(9, 0);
+        assert_eq!(nine, len > 26, "one byte short of {len}");
+        nines += u32::from(nine);
+        for room in [0, 1, 25, 26, 27, len, len + 1, lent_bytes(&mut rng, len)] {
+            same_determine(&bytes, room);
+        }
+    }
+    assert!(nines > 500, "{nines} sheets one byte short of their buffer");
+}
+
+#[test]
+fn every_buffer_of_the_worked_example() {
+    let file = write_survey(&worked_example());
+    for room in 0..600 {
+        let expected = match room {
+            0..26 => Vec::new(),
+            26..272 => refusal_line(9, 0),
+            _ => WORKED_SHEET.into(),
+        };
+        assert_eq!(same_determine(&file, room), expected, "{room} bytes");
+    }
+}
+
+#[test]
+fn lengths_about_the_most_that_is_read() {
+    let mut rng = Rng::new(SEED + 3);
+    for fill in *b" \nBSM09\0\xff" {
+        for mut bytes in [Vec::new(), write_survey(&valid_survey(&mut rng)), write_survey(&worked_example())] {
+            for len in [INPUT_MOST - 1, INPUT_MOST] {
+                bytes.resize(len, fill);
+                let told = refusal_told(&same_determine(&bytes, ROOM)).expect("refused");
+                assert_ne!(told.number, 8, "{len} bytes");
+            }
+            for len in [INPUT_MOST + 1, INPUT_MOST + 2, 70_000, 131_072, 200_000] {
+                bytes.resize(len, fill);
+                assert_eq!(same_determine(&bytes, ROOM), refusal_line(8, 0), "{len} bytes");
+                assert_eq!(same_determine(&bytes, 25), b"", "{len} bytes");
+            }
+        }
+    }
+}
+
+#[test]
+fn every_length_and_byte_of_a_small_file() {
+    let bytes = write_survey(&worked_example());
+    let mut seen = Seen::default();
+    for len in 0..=bytes.len() {
+        seen.note(&same_determine(&bytes[..len], ROOM));
+    }
+    for at in 0..bytes.len() {
+        for byte in [0, b'\n', b' ', b'-', b'0', b'1', b'9', b'B', b'S', b'M', 255] {
+            let mut changed = bytes.clone();
+            changed[at] = byte;
+            seen.note(&same_determine(&changed, ROOM));
+        }
+    }
+    let counts = seen.counts();
+    assert!(counts[..3].iter().all(|&n| n >= 4), "refusals 1 to 3 at each of the four lines: {counts:?}");
+}
+
+// ---- the program ----
+
+fn program() -> PathBuf {
+    let path = Path::new(env!("CARGO_MANIFEST_DIR")).join("../../target/bin/determine");
+    assert!(path.is_file(), "target/bin/determine is absent: `rt check determine` makes it");
+    path
+}
+
+/// Writes to the program; whether it still reads.
+fn send(pipe: &mut ChildStdin, part: &[u8]) -> bool {
+    match pipe.write_all(part).and_then(|()| pipe.flush()) {
+        Ok(()) => true,
+        Err(e) if e.kind() == ErrorKind::BrokenPipe => false,
+        Err(e) => panic!("{e}"),
+    }
+}
+
+/// What the program prints for input that comes by a pipe in chunks, with a pause before each; and whether all was sent.
+fn run(input: &[u8], chunk: usize, pause: Duration) -> (Vec<u8>, bool) {
+    let mut child = Command::new(program()).stdin(Stdio::piped()).stdout(Stdio::piped()).spawn().expect("the program starts");
+    let mut pipe = child.stdin.take().expect("a pipe");
+    let sent = input.chunks(chunk).all(|part| {
+        sleep(pause);
+        send(&mut pipe, part)
+    });
+    drop(pipe);
+    let output = child.wait_with_output().expect("the program ends");
+    assert!(output.status.code().is_some(), "ended by {}", output.status);
+    (output.stdout, sent)
+}
+
+/// Panics unless the program prints what the independent one does, and takes all input that is not too long.
+fn same_printed(input: &[u8], chunk: usize, pause: Duration) {
+    let (printed, sent) = run(input, chunk, pause);
+    let expected = independent::determine(input);
+    let shown = String::from_utf8_lossy;
+    assert!(printed == expected, "printed:\n{}\nexpected:\n{}", shown(&printed), shown(&expected));
+    assert!(sent || input.len() > INPUT_MOST + 1, "stopped before the end of {} bytes", input.len());
+}
+
+fn same_at_once(input: &[u8]) {
+    same_printed(input, input.len().max(1), Duration::ZERO);
+}
+
+#[test]
+fn the_program_on_generated_files() {
+    let mut rng = Rng::new(SEED + 4);
+    let mut seen = Seen::default();
+    for _ in 0..600 {
+        let bytes = any_file(&mut rng);
+        same_at_once(&bytes);
+        seen.note(&independent::determine(&bytes));
+    }
+    let counts = seen.counts();
+    assert!(counts.iter().all(|&n| n > 0) && seen.accepted > 150, "{} accepted, {counts:?}", seen.accepted);
+}
+
+#[test]
+fn the_program_on_the_samples() {
+    for sample in samples::all() {
+        let (printed, _) = run(&sample.survey, sample.survey.len(), Duration::ZERO);
+        assert_eq!(String::from_utf8_lossy(&printed), String::from_utf8_lossy(&sample.sheet), "{}", sample.name);
+    }
+}
+
+#[test]
+fn the_program_on_input_that_comes_in_parts() {
+    let mut rng = Rng::new(SEED + 5);
+    let pause = Duration::from_micros(200);
+    let example = write_survey(&worked_example());
+    same_printed(&example, 1, pause);
+    same_printed(&example[..example.len() - 1], 1, pause);
+    for chunk in [7, 211, 997, 4_095, 4_097, 65_535] {
+        same_printed(&write_survey(&surveys_at_rows()[0]), chunk, pause);
+        same_printed(&any_file(&mut rng), chunk.max(97), pause);
+    }
+}
+
+#[test]
+fn the_program_on_lengths_about_the_most_that_is_read() {
+    let mut bytes = write_survey(&surveys_at_rows()[0]);
+    same_at_once(b"");
+    for len in [INPUT_MOST - 1, INPUT_MOST, INPUT_MOST + 1, INPUT_MOST + 2, 100_000] {
+        bytes.resize(len, b'\n');
+        same_at_once(&bytes);
+        same_printed(&bytes, 1_009, Duration::ZERO);
+    }
+}
+
+#[test]
+fn the_program_does_not_wait_for_the_end_of_input_that_is_too_long() {
+    let (printed, sent) = run(&vec![b' '; 1_000_000], 1_000, Duration::ZERO);
+    assert_eq!((printed, sent), (refusal_line(8, 0), false));
+}

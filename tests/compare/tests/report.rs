@@ -1,0 +1,178 @@
+//! The report call against the independent program, byte by byte.
+use compare::{
+    header_numbers, member_rows, pattern, report, report_into, same_report, sheet_len, storey_rows, worked_example, WORKED_SHEET,
+};
+use generator::{edge_member_for, lent_bytes, surveys_at_rows, valid_survey, wild_survey, Rng};
+use independent::{Header, Member, Refusal, Storey, Survey};
+
+const SEED: u64 = 20_260_118;
+const NINE: Option<Refusal> = Some(Refusal { number: 9, line: 0 });
+
+/// Compares a good survey's sheet in buffers that hold it and in buffers that do not.
+fn in_every_buffer(rng: &mut Rng, survey: &Survey) {
+    let len = sheet_len(survey);
+    for room in [len, len + 1, len + 2 + rng.index(2_000)] {
+        assert_eq!(same_report(survey, room), None, "{room} bytes for {len}");
+    }
+    for room in [0, rng.index(len), len - 1] {
+        assert_eq!(same_report(survey, room), NINE, "{room} bytes for {len}");
+    }
+}
+
+#[test]
+fn accepted_surveys() {
+    let mut rng = Rng::new(SEED);
+    for _ in 0..6_000 {
+        let survey = valid_survey(&mut rng);
+        in_every_buffer(&mut rng, &survey);
+    }
+}
+
+#[test]
+fn every_row_of_the_tables() {
+    let mut rng = Rng::new(SEED + 1);
+    for survey in surveys_at_rows() {
+        in_every_buffer(&mut rng, &survey);
+    }
+}
+
+/// A building of storeys of 200 members at the edges.
+fn at_edges(rng: &mut Rng, storeys: u64) -> Survey {
+    let knowledge = rng.pick(&[90, 100]);
+    let mut member = |i: u64| Member { number: 1 + i % 200, ..edge_member_for(rng, knowledge) };
+    Survey {
+        members: (0..200 * storeys).map(&mut member).collect(),
+        storeys: (1..=storeys).map(|number| Storey { number, shear: 5_000 * number, member_count: 200 }).collect(),
+        header: Header { knowledge, height: 30_000, storeys_above_ground: 10, tilt_1: 0, tilt_2: 0, storey_count: storeys },
+    }
+}
+
+#[test]
+fn large_buildings_at_every_edge() {
+    let mut rng = Rng::new(SEED + 2);
+    for storeys in 1..=10 {
+        let survey = at_edges(&mut rng, storeys);
+        in_every_buffer(&mut rng, &survey);
+    }
+}
+
+#[test]
+fn wild_surveys() {
+    let mut rng = Rng::new(SEED + 3);
+    let mut seen = [0u32; 10];
+    for _ in 0..40_000 {
+        let survey = wild_survey(&mut rng);
+        let room = lent_bytes(&mut rng, sheet_len(&survey));
+        if let Some(refusal) = same_report(&survey, room) {
+            seen[refusal.number as usize] += 1;
+        }
+    }
+    assert!([1, 3, 4, 5, 7, 9].iter().all(|&n| seen[n] > 100), "refusals 1, 3, 4, 5, 7 and 9 come up: {seen:?}");
+}
+
+#[test]
+fn counts_that_would_overflow() {
+    let mut survey = valid_survey(&mut Rng::new(SEED + 4));
+    let room = sheet_len(&survey);
+    for count in [0, u64::MAX, u64::MAX - survey.members.len() as u64 + 1] {
+        survey.storeys[0].member_count = count;
+        assert_eq!(same_report(&survey, room), Some(Refusal::of_record(1)), "{count} members");
+    }
+}
+
+#[test]
+fn a_survey_without_rows() {
+    let header = worked_example().header;
+    for (storey_count, number) in [(0, 3), (1, 1)] {
+        let survey = Survey { header: Header { storey_count, ..header }, ..Survey::default() };
+        assert_eq!(same_report(&survey, 300), Some(Refusal::of_record(number)));
+    }
+}
+
+/// The sheet of a good survey by the proved call.
+fn sheet(survey: &Survey) -> Vec<u8> {
+    let mut sheet = pattern(sheet_len(survey));
+    let rows = member_rows(&survey.members).expect("good members");
+    assert_eq!(report(&survey.header, &survey.storeys, &rows, &mut sheet), Ok(sheet.len()));
+    sheet
+}
+
+/// The survey with each storey's members in the order given for it.
+fn reordered(survey: &Survey, orders: &[Vec<usize>]) -> Survey {
+    let mut rest = &survey.members[..];
+    let mut members = Vec::new();
+    for order in orders {
+        let (own, after) = rest.split_at(order.len());
+        members.extend(order.iter().map(|&i| own[i]));
+        rest = after;
+    }
+    Survey { members, ..survey.clone() }
+}
+
+/// The sheet with each storey's `M` lines in the order given for it, and every other line where it stands.
+fn lines_reordered(sheet: &[u8], orders: &[Vec<usize>]) -> Vec<u8> {
+    let lines: Vec<&[u8]> = sheet.split_inclusive(|&b| b == b'\n').collect();
+    let mut rest = &lines[..];
+    let mut moved = Vec::new();
+    for order in orders {
+        let (own, after) = rest.split_at(order.len());
+        moved.extend(order.iter().map(|&i| own[i]));
+        moved.push(after[0]);
+        rest = &after[1..];
+    }
+    moved.extend(rest);
+    moved.concat()
+}
+
+#[test]
+fn another_order_of_members_moves_their_lines_alone() {
+    let mut rng = Rng::new(SEED + 5);
+    let mut moved = 0;
+    for _ in 0..6_000 {
+        let survey = valid_survey(&mut rng);
+        let orders: Vec<Vec<usize>> = survey.storeys.iter().map(|s| rng.order(s.member_count as usize)).collect();
+        let (first, second) = (sheet(&survey), sheet(&reordered(&survey, &orders)));
+        assert!(second == lines_reordered(&first, &orders), "{orders:?}:\n{}", String::from_utf8_lossy(&second));
+        moved += u32::from(first != second);
+    }
+    assert!(moved > 4_000, "lines moved in {moved} sheets");
+}
+
+#[test]
+fn the_worked_example() {
+    let survey = worked_example();
+    assert_eq!(sheet(&survey), WORKED_SHEET.as_bytes());
+    assert_eq!(WORKED_SHEET.len(), 272);
+    for room in 0..272 {
+        assert_eq!(same_report(&survey, room), NINE);
+    }
+    for room in 272..600 {
+        assert_eq!(same_report(&survey, room), None);
+    }
+}
+
+#[test]
+fn ten_numbers_go_out_or_none() {
+    let survey = worked_example();
+    let (header, storeys) = (header_numbers(&survey.header), storey_rows(&survey.storeys));
+    let rows = member_rows(&survey.members).expect("good members");
+    for n in [0, 1, 9, 10, 12] {
+        let mut out = vec![5; n];
+        report_into(&header, &storeys, &rows, &mut pattern(272), &mut out);
+        let put: &[u64] = if n < 10 { &[] } else { &[0, 0, 272, 0, 0, 0, 0, 0, 0, 0] };
+        assert_eq!((&out[..put.len()], &out[put.len()..]), (put, &vec![5; n - put.len()][..]));
+    }
+}
+
+#[test]
+fn a_header_with_a_missing_number_is_refused() {
+    let survey = worked_example();
+    let (header, storeys) = (header_numbers(&survey.header), storey_rows(&survey.storeys));
+    let rows = member_rows(&survey.members).expect("good members");
+    for n in 0..6 {
+        let (mut buffer, mut out) = (pattern(300), [u64::MAX; 10]);
+        report_into(&header[..n], &storeys, &rows, &mut buffer, &mut out);
+        assert_eq!(out, [1, 0, 0, 0, 0, 0, 0, 0, 0, 0], "B with {n} fields");
+        assert_eq!(buffer, pattern(300));
+    }
+}
