@@ -1,0 +1,54 @@
+-- A sheet of the rows that are lent fits in 28,286 bytes: 86 for each of 320 members, 74 for each of 10 storeys, 26 for the building. With a buffer of that
+-- length `determine` never prints `E` with 9.
+use Prim.Native.Nat.{ℕ, _≤_}
+use native.Mathlib.Omega.{arith}
+use mathlib.Core.Bool.{Bool, true, false}
+use mathlib.Core.List.{List}
+use mathlib.Core.Path.{_≡_, refl, sym}
+use lib.Dec.{eqb}
+use lib.ListN.{length}
+use borrow.Author.Tests.{eqb-true, le-leb}
+use Rattle.reading.specs.declared.records.Header.{Header}
+use Rattle.reading.specs.declared.records.Storey.{Storey}
+use Rattle.reading.specs.declared.records.Member.{Member}
+use Rattle.reading.specs.Lines.{headerAt}
+use Rattle.reading.specs.Survey.{Outcome, accepted, survey, surveyFault, storey}
+use Rattle.reading.specs.Answer.{told, storeysTold}
+use Rattle.reading.proofs.Numbers.{length-listed, length-members}
+use Rattle.reading.proofs.Accepted.{lies}
+use Rattle.storeys.specs.Storey.{publishedRules}
+use Rattle.storeys.specs.Building.{buildingFault}
+use Rattle.report.specs.Sheet.{sheet, reportFault}
+use Rattle.report.proofs.Called.{length-sheet}
+use Rattle.determination.specs.Determination.{storeyRows, memberRows}
+use Rattle.determination.proofs.Outcomes.{storeysIn, membersIn}
+
+abbrev Held : ℕ → ℕ → Outcome → Type 0
+Held srows mrows o = (length (storeysIn o) ≤ srows) × (length (membersIn o) ≤ mrows)
+
+module _ (s : List ℕ) (srows mrows : ℕ) where
+  held-by : (t : Bool) → eqb (surveyFault s srows mrows .number) 0 ≡ t → Held srows mrows (survey s srows mrows)
+  unfolding survey
+  held-by true e =
+      let n = headerAt s 0 .count in
+      let q : n ≡ storeysTold (told (survey s srows mrows)) = rw e (sym (length-listed (storey s) n)) in
+      let l = lies s srows mrows n q in
+      rw e (omega (arith, length-listed (storey s) n, l .1), omega (arith, length-members s n, l .2))
+  held-by false e = rw e (omega arith, omega arith)
+
+  -- an accepted file has no more records than rows
+  pub held : Held srows mrows (survey s srows mrows)
+  held = held-by (eqb (surveyFault s srows mrows .number) 0) refl
+
+module _ (h : Header) (ss : List Storey) (ms : List Member) (room : ℕ) (few : Held storeyRows memberRows (accepted h ss ms)) (enough : 28_286 ≤ room) where
+  by-building : (t : Bool) → eqb (buildingFault publishedRules h ss ms) 0 ≡ t → reportFault h ss ms room ≡ buildingFault publishedRules h ss ms
+  unfolding reportFault
+  by-building true e =
+      let none = eqb-true (buildingFault publishedRules h ss ms) 0 e in
+      let fits : length (sheet h ss ms) ≤ room = omega (arith, length-sheet h ss ms none, few) in
+      rw (none, le-leb (length (sheet h ss ms)) room fits)
+  by-building false e = rw e
+
+-- a file that is read has no refusal 9
+pub never-nine : (s : List ℕ) (h : Header) (ss : List Storey) (ms : List Member) (room : ℕ) → survey s storeyRows memberRows ≡ accepted h ss ms → 28_286 ≤ room → reportFault h ss ms room ≡ buildingFault publishedRules h ss ms
+never-nine s h ss ms room e enough = by-building h ss ms room (rw e at (held s storeyRows memberRows)) enough (eqb (buildingFault publishedRules h ss ms) 0) refl
