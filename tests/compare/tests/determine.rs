@@ -199,7 +199,7 @@ fn same_at_once(input: &[u8]) {
 fn the_program_on_generated_files() {
     let mut rng = Rng::new(SEED + 4);
     let mut seen = Seen::default();
-    for _ in 0..600 {
+    for _ in 0..3_000 {
         let bytes = any_file(&mut rng);
         same_at_once(&bytes);
         seen.note(&independent::determine(&bytes));
