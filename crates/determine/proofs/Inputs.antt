@@ -10,7 +10,7 @@ use Rattle.determine.specs.declared.Input.{Input}
 use Rattle.determine.specs.declared.Input.the-variants.{Bytes}
 
 pub within-bytes : (r : Input) (n room : ℕ) → r ≡ Bytes n → Within r room → n ≤ room
-within-bytes r n room e h = rw e at h
+within-bytes r n room e h = omega (arith, (rw e at h))
 
 pub within-length : (r : Input) (n room : ℕ) (buffer : List ℕ) → r ≡ Bytes n → Within r room → length buffer ≡ room → n ≤ length buffer
 within-length r n room buffer e h l = omega (arith, within-bytes r n room e h, l)
