@@ -2,67 +2,10 @@
 pub mod samples;
 
 use independent::{Header, Member, MemberFinding, Refusal, Storey, StoreyFinding, Survey};
+use llunareth::{raw, BuildingFinding};
+pub use llunareth::{Member as MemberRow, Storey as StoreyRow};
 
-/// A storey as the proved library lays it out.
-#[repr(C)]
-#[derive(Clone, Copy, Debug, PartialEq, Eq)]
-pub struct StoreyRow(pub [u64; 3]);
-
-/// A member as the proved library lays it out: fields 1 to 26, N_D and N_K counted from -1,000,000.
-#[repr(C)]
-#[derive(Clone, Copy, Debug, PartialEq, Eq)]
-pub struct MemberRow(pub [u64; 26]);
-
-extern "C" {
-    fn llunareth_read(
-        s: *const u8,
-        s_len: usize,
-        storeys: *mut StoreyRow,
-        storeys_len: usize,
-        members: *mut MemberRow,
-        members_len: usize,
-        out: *mut u64,
-        out_len: usize,
-    );
-    fn llunareth_header_fault(values: *const u64, len: usize) -> u64;
-    fn llunareth_storey_fault(values: *const u64, len: usize) -> u64;
-    fn llunareth_member_fault(values: *const u64, len: usize) -> u64;
-    fn llunareth_judge_member(k: u64, met: bool, values: *const u64, len: usize, out: *mut u64, out_len: usize);
-    fn llunareth_judge_storey(
-        k: u64,
-        storey: *const u64,
-        storey_len: usize,
-        members: *const MemberRow,
-        members_len: usize,
-        out: *mut u64,
-        out_len: usize,
-    );
-    fn llunareth_judge_building(
-        header: *const u64,
-        header_len: usize,
-        storeys: *const StoreyRow,
-        storeys_len: usize,
-        members: *const MemberRow,
-        members_len: usize,
-        out: *mut u64,
-        out_len: usize,
-    );
-    fn llunareth_report(
-        header: *const u64,
-        header_len: usize,
-        storeys: *const StoreyRow,
-        storeys_len: usize,
-        members: *const MemberRow,
-        members_len: usize,
-        sheet: *mut u8,
-        sheet_len: usize,
-        out: *mut u64,
-        out_len: usize,
-    );
-    fn llunareth_determine(input: *const u8, input_len: usize, out: *mut u8, out_len: usize) -> usize;
-}
-
-const ZERO_FORCE: i128 = 1_000_000;
+const ZERO_FORCE: i128 = llunareth::ZERO_FORCE as i128;
 
 /// The stored numbers of a member; `None` where a force has none (below -1,000,000 or above what 64 bits hold).
 pub fn member_numbers(m: &Member) -> Option<[u64; 26]> {
@@ -75,6 +18,26 @@ pub fn member_numbers(m: &Member) -> Option<[u64; 26]> {
     Some(numbers)
 }
 
+/// The stored numbers of a header.
+pub fn header_numbers(h: &Header) -> [u64; 6] {
+    h.fields().map(|v| v as u64)
+}
+
+/// The stored numbers of a storey.
+pub fn storey_numbers(s: &Storey) -> [u64; 3] {
+    s.fields().map(|v| v as u64)
+}
+
+/// The header of stored numbers.
+pub fn header_of(numbers: &[u64; 6]) -> Header {
+    Header::from_fields(&numbers.map(i128::from))
+}
+
+/// The storey of stored numbers.
+pub fn storey_of(numbers: &[u64; 3]) -> Storey {
+    Storey::from_fields(&numbers.map(i128::from))
+}
+
 /// The member of stored numbers.
 pub fn member_of(numbers: &[u64; 26]) -> Member {
     let mut fields = [0; 26];
@@ -85,182 +48,114 @@ pub fn member_of(numbers: &[u64; 26]) -> Member {
     Member::from_fields(&fields)
 }
 
-/// The proved reading call: the rows are filled in place, and `out` gets its ten numbers if they fit.
-pub fn read_into(bytes: &[u8], storeys: &mut [StoreyRow], members: &mut [MemberRow], out: &mut [u64]) {
-    unsafe {
-        llunareth_read(
-            bytes.as_ptr(),
-            bytes.len(),
-            storeys.as_mut_ptr(),
-            storeys.len(),
-            members.as_mut_ptr(),
-            members.len(),
-            out.as_mut_ptr(),
-            out.len(),
-        );
+/// A refusal of the proved library as the independent program has it.
+fn refusal(r: llunareth::Refusal) -> Refusal {
+    Refusal::at(r.number.try_into().expect("a number from 1 to 10"), r.line)
+}
+
+/// Panics unless a call puts out a refusal and nothing else but its line, or so many values and nothing else.
+fn assert_ten(values: usize, call: impl FnOnce(&mut [u64])) {
+    let mut out = [u64::MAX; 10];
+    call(&mut out);
+    if out[0] != 0 {
+        assert_eq!(out[2..], [0; 8], "a refusal tells nothing else");
+    } else {
+        assert_eq!(out[1], 0, "what is accepted has no line");
+        assert_eq!(out[2 + values..], [0; 8][values..], "zeros after the values");
     }
 }
 
 /// What the proved reading call answers for a file and so many rows. Panics where a row changed that it must leave alone.
 pub fn read(bytes: &[u8], storey_rows: usize, member_rows: usize) -> Result<Survey, Refusal> {
-    let storey_mark: Vec<StoreyRow> = (0..storey_rows).map(|i| StoreyRow([7 + i as u64; 3])).collect();
-    let member_mark: Vec<MemberRow> = (0..member_rows).map(|i| MemberRow([9 + i as u64; 26])).collect();
+    let storey_mark: Vec<StoreyRow> = (0..storey_rows).map(|i| StoreyRow::from([7 + i as u64; 3])).collect();
+    let member_mark: Vec<MemberRow> = (0..member_rows).map(|i| MemberRow::from([9 + i as u64; 26])).collect();
+    assert_ten(8, |out| raw::read(bytes, &mut storey_mark.clone(), &mut member_mark.clone(), out));
     let (mut storeys, mut members) = (storey_mark.clone(), member_mark.clone());
-    let mut out = [u64::MAX; 10];
-    read_into(bytes, &mut storeys, &mut members, &mut out);
-    let (s, m) = (out[8] as usize, out[9] as usize);
-    if out[0] != 0 {
-        assert_eq!(&out[2..], &[0; 8], "a refusal tells nothing else");
-    }
+    let found = llunareth::read(bytes, &mut storeys, &mut members).map(survey_of).map_err(refusal);
+    let (s, m) = found.as_ref().map_or((0, 0), |survey| (survey.storeys.len(), survey.members.len()));
     assert_eq!(storeys[s..], storey_mark[s..], "storey rows after those filled");
     assert_eq!(members[m..], member_mark[m..], "member rows after those filled");
-    if out[0] != 0 {
-        return Err(Refusal::at(out[0] as u8, out[1]));
+    found
+}
+
+/// A survey that was read, as the independent program has it.
+fn survey_of(survey: llunareth::Survey) -> Survey {
+    Survey {
+        header: header_of(&survey.header.into()),
+        storeys: survey.storeys.iter().map(|&s| storey_of(&s.into())).collect(),
+        members: survey.members.iter().map(|&m| member_of(&m.into())).collect(),
     }
-    assert_eq!(out[1], 0, "an accepted file has no line");
-    let header: [i128; 6] = std::array::from_fn(|j| i128::from(out[2 + j]));
-    Ok(Survey {
-        header: Header::from_fields(&header),
-        storeys: storeys[..s].iter().map(|r| Storey::from_fields(&r.0.map(i128::from))).collect(),
-        members: members[..m].iter().map(|r| member_of(&r.0)).collect(),
-    })
 }
 
-pub fn header_fault(values: &[u64]) -> u64 {
-    unsafe { llunareth_header_fault(values.as_ptr(), values.len()) }
+/// The proved check of a header.
+pub fn header_fault(numbers: &[u64; 6]) -> Result<(), Refusal> {
+    llunareth::header_fault(&llunareth::Header::from(*numbers)).map_err(refusal)
 }
 
-pub fn storey_fault(values: &[u64]) -> u64 {
-    unsafe { llunareth_storey_fault(values.as_ptr(), values.len()) }
+/// The proved check of a storey.
+pub fn storey_fault(numbers: &[u64; 3]) -> Result<(), Refusal> {
+    llunareth::storey_fault(&StoreyRow::from(*numbers)).map_err(refusal)
 }
 
-pub fn member_fault(values: &[u64]) -> u64 {
-    unsafe { llunareth_member_fault(values.as_ptr(), values.len()) }
-}
-
-/// The refusal of ten numbers put out, or their values.
-fn answer(out: [u64; 10]) -> Result<[u64; 8], Refusal> {
-    assert_eq!(out[1], 0, "calls on records have no line");
-    if out[0] != 0 {
-        assert_eq!(&out[2..], &[0; 8], "a refusal tells nothing else");
-        return Err(Refusal::of_record(out[0] as u8));
-    }
-    Ok(std::array::from_fn(|j| out[2 + j]))
+/// The proved check of a member.
+pub fn member_fault(numbers: &[u64; 26]) -> Result<(), Refusal> {
+    llunareth::member_fault(&MemberRow::from(*numbers)).map_err(refusal)
 }
 
 /// The proved call on a member, given by its stored numbers. `n` is not part of its answer, so it is taken over from `like`.
 pub fn judge_member(k: u64, met: bool, numbers: &[u64; 26], like: u64) -> Result<MemberFinding, Refusal> {
-    let mut out = [u64::MAX; 10];
-    unsafe { llunareth_judge_member(k, met, numbers.as_ptr(), numbers.len(), out.as_mut_ptr(), out.len()) }
-    let v = answer(out)?;
-    assert_eq!(v[7], 0);
+    assert_ten(7, |out| raw::judge_member(k, met, numbers, out));
+    let f = llunareth::judge_member(k, met, &MemberRow::from(*numbers)).map_err(refusal)?;
     Ok(MemberFinding {
-        class: v[0] as u8,
-        n_d: v[6],
+        class: f.class.try_into().expect("a class from 1 to 5"),
+        n_d: f.nd,
         n: like,
-        m: v[1],
-        m_limit: v[2],
-        rotation: v[3],
-        rotation_limit: v[4],
-        over: v[5] == 1,
+        m: f.m,
+        m_limit: f.m_limit,
+        rotation: f.rotation,
+        rotation_limit: f.rotation_limit,
+        over: f.over,
     })
 }
 
 /// The members as rows; `None` where a force has no stored number.
 pub fn member_rows(members: &[Member]) -> Option<Vec<MemberRow>> {
-    members.iter().map(|m| member_numbers(m).map(MemberRow)).collect()
+    members.iter().map(|m| member_numbers(m).map(MemberRow::from)).collect()
 }
 
 /// The storeys as rows.
 pub fn storey_rows(storeys: &[Storey]) -> Vec<StoreyRow> {
-    storeys.iter().map(|s| StoreyRow([s.number, s.shear, s.member_count])).collect()
-}
-
-/// The stored numbers of a header.
-pub fn header_numbers(h: &Header) -> [u64; 6] {
-    h.fields().map(|v| v as u64)
+    storeys.iter().map(|s| StoreyRow::from(storey_numbers(s))).collect()
 }
 
 /// The proved call on a storey.
 pub fn judge_storey(k: u64, s: &Storey, rows: &[MemberRow]) -> Result<StoreyFinding, Refusal> {
-    let storey = [s.number, s.shear, s.member_count];
-    let mut out = [u64::MAX; 10];
-    unsafe {
-        llunareth_judge_storey(k, storey.as_ptr(), storey.len(), rows.as_ptr(), rows.len(), out.as_mut_ptr(), out.len());
-    }
-    let v = answer(out)?;
-    assert_eq!(v[6..], [0, 0]);
+    let storey = storey_numbers(s);
+    assert_ten(6, |out| raw::judge_storey(k, &storey, rows, out));
+    let f = llunareth::judge_storey(k, &StoreyRow::from(storey), rows).map_err(refusal)?;
     Ok(StoreyFinding {
         number: s.number,
-        sum: v[0],
-        c: v[1],
-        p: v[2],
-        w: v[3],
-        risky: v[4] == 1,
-        meets_wall_share: v[5] == 1,
+        sum: f.axial,
+        c: f.members,
+        p: f.over,
+        w: f.shear,
+        risky: f.risky,
+        meets_wall_share: f.walls,
     })
 }
 
-/// What the proved call on a building answers.
-#[derive(Clone, Copy, Debug, PartialEq, Eq)]
-pub struct Building {
-    pub tilt_above: bool,
-    pub risky: bool,
-    pub place: u64,
-}
-
 /// The proved call on a building.
-pub fn judge_building(h: &Header, storeys: &[Storey], rows: &[MemberRow]) -> Result<Building, Refusal> {
-    let header = header_numbers(h);
-    let storeys = storey_rows(storeys);
-    let mut out = [u64::MAX; 10];
-    unsafe {
-        llunareth_judge_building(
-            header.as_ptr(),
-            header.len(),
-            storeys.as_ptr(),
-            storeys.len(),
-            rows.as_ptr(),
-            rows.len(),
-            out.as_mut_ptr(),
-            out.len(),
-        );
-    }
-    let v = answer(out)?;
-    assert_eq!(v[3..], [0; 5]);
-    Ok(Building { tilt_above: v[0] == 1, risky: v[1] == 1, place: v[2] })
+pub fn judge_building(h: &Header, storeys: &[Storey], rows: &[MemberRow]) -> Result<BuildingFinding, Refusal> {
+    let (header, storeys) = (header_numbers(h), storey_rows(storeys));
+    assert_ten(3, |out| raw::judge_building(&header, &storeys, rows, out));
+    llunareth::judge_building(&header.into(), &storeys, rows).map_err(refusal)
 }
 
-/// The proved report call: the sheet goes to the front of `sheet`, and `out` gets its ten numbers if they fit.
-pub fn report_into(header: &[u64], storeys: &[StoreyRow], members: &[MemberRow], sheet: &mut [u8], out: &mut [u64]) {
-    unsafe {
-        llunareth_report(
-            header.as_ptr(),
-            header.len(),
-            storeys.as_ptr(),
-            storeys.len(),
-            members.as_ptr(),
-            members.len(),
-            sheet.as_mut_ptr(),
-            sheet.len(),
-            out.as_mut_ptr(),
-            out.len(),
-        );
-    }
-}
-
-/// The proved report call: the length of the sheet in `sheet`.
-pub fn report(h: &Header, storeys: &[Storey], rows: &[MemberRow], sheet: &mut [u8]) -> Result<usize, Refusal> {
-    let mut out = [u64::MAX; 10];
-    report_into(&header_numbers(h), &storey_rows(storeys), rows, sheet, &mut out);
-    let v = answer(out)?;
-    assert_eq!(v[1..], [0; 7]);
-    Ok(v[0] as usize)
-}
-
-/// The proved call from a file's bytes to the bytes printed for it: how many of them stand in `out`.
-pub fn determine(input: &[u8], out: &mut [u8]) -> usize {
-    unsafe { llunareth_determine(input.as_ptr(), input.len(), out.as_mut_ptr(), out.len()) }
+/// The proved report call: the sheet, which stands at the front of `buffer` as well.
+pub fn report(h: &Header, storeys: &[Storey], rows: &[MemberRow], buffer: &mut [u8]) -> Result<Vec<u8>, Refusal> {
+    let (header, storeys) = (header_numbers(h), storey_rows(storeys));
+    assert_ten(1, |out| raw::report(&header, &storeys, rows, &mut buffer.to_vec(), out));
+    llunareth::report(&header.into(), &storeys, rows, buffer).map(Vec::from).map_err(refusal)
 }
 
 /// Judges a member by both programs and panics where they differ; the refusal, if it is one.
@@ -291,7 +186,7 @@ pub fn same_building(survey: &Survey) -> Option<Refusal> {
         }
         Ok(expected) => {
             let found = proved.expect("accepted by the independent program");
-            assert_eq!((found.tilt_above, found.risky), (expected.tilt_above, expected.risky), "{survey:?}");
+            assert_eq!((found.tilted, found.risky), (expected.tilt_above, expected.risky), "{survey:?}");
             let places = expected.risky_places;
             let named = if places.is_empty() { found.place == 0 } else { places.contains(&found.place) };
             assert!(named, "place {} of {places:?}: {survey:?}", found.place);
@@ -327,12 +222,8 @@ pub fn same_report(survey: &Survey, len: usize) -> Option<Refusal> {
     let expected = independent::report(&survey.header, &survey.storeys, &survey.members, len);
     let mut buffer = pattern(len + BEYOND);
     let found = report(&survey.header, &survey.storeys, &rows, &mut buffer[..len]);
-    let (length, sheet) = match &expected {
-        Ok(sheet) => (Ok(sheet.len()), &sheet[..]),
-        Err(refusal) => (Err(*refusal), &[][..]),
-    };
-    assert_eq!(found, length, "{len} bytes: {survey:?}");
-    assert_filled(&buffer, sheet);
+    assert_filled(&buffer, expected.as_deref().unwrap_or_default());
+    assert!(found == expected, "{len} bytes: {survey:?}");
     expected.err()
 }
 
@@ -357,9 +248,9 @@ fn fitting(printed: Vec<u8>, len: usize) -> Vec<u8> {
 pub fn same_determine(input: &[u8], len: usize) -> Vec<u8> {
     let expected = fitting(independent::determine(input), len);
     let mut out = pattern(len + BEYOND);
-    let length = determine(input, &mut out[..len]);
-    assert_eq!(length, expected.len(), "{len} bytes for a file of {}:\n{}", input.len(), String::from_utf8_lossy(input));
+    let printed = llunareth::determine(input, &mut out[..len]).to_vec();
     assert_filled(&out, &expected);
+    assert!(printed == expected, "{len} bytes for a file of {}:\n{}", input.len(), String::from_utf8_lossy(input));
     expected
 }
 

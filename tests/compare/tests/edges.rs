@@ -93,7 +93,7 @@ fn j_the_larger_tilt() {
         let s = Storey { number: 1, shear: 1_000, member_count: 1 };
         let b = judge_building(&h, &[s], &member_rows(&[loaded(1, 0, 0, 0, 0)]).unwrap()).expect("a good building");
         assert_eq!(b.place, 0);
-        (b.tilt_above, b.risky)
+        (b.tilted, b.risky)
     };
     assert_eq!(tilted(25_000, 25_000), (false, false));
     assert_eq!(tilted(25_001, 0), (true, true));

@@ -1,8 +1,12 @@
 //! The reading call and the checks of records against the independent program.
-use compare::{header_fault, member_fault, member_numbers, read, read_into, storey_fault, MemberRow, StoreyRow};
+use compare::{
+    header_fault, header_numbers, header_of, member_fault, member_numbers, member_of, read, storey_fault, storey_numbers, storey_of,
+    MemberRow, StoreyRow,
+};
 use generator::{any_file, damage, file_of, lent_rows, survey_lines, valid_survey, wild_header, wild_member, wild_storey, write_survey, Line, Rng};
 use independent::records::{check_header, check_member, check_storey};
-use independent::{Header, Member, Refusal, Storey};
+use independent::Refusal;
+use llunareth::raw;
 
 const SEED: u64 = 20_260_115;
 
@@ -107,53 +111,43 @@ fn accepted_rows_are_those_written() {
 fn a_short_buffer_is_left_alone_and_a_long_one_past_ten() {
     let bytes = write_survey(&small());
     for n in [0, 9, 10, 12] {
-        let (mut storeys, mut members) = ([StoreyRow([0; 3]); 2], [MemberRow([0; 26]); 3]);
+        let (mut storeys, mut members) = ([StoreyRow::default(); 2], [MemberRow::default(); 3]);
         let mut out = vec![5; n];
-        read_into(&bytes, &mut storeys, &mut members, &mut out);
+        raw::read(&bytes, &mut storeys, &mut members, &mut out);
         let kept = if n < 10 { 0 } else { 10 };
         assert_eq!(out[kept..], vec![5; n - kept]);
         assert_ne!(out[..kept].first(), Some(&5));
     }
 }
 
-fn fault(result: Result<(), Refusal>) -> u64 {
-    result.err().map_or(0, |r| r.number.into())
-}
-
-fn check_member_numbers(numbers: &[u64; 26]) -> u64 {
-    fault(check_member(&compare::member_of(numbers)))
-}
-
 #[test]
 fn every_fields_range_from_a_record() {
-    let good = member_numbers(&small().members[0]).unwrap();
-    assert_eq!(member_fault(&good), 0);
+    let s = small();
+    let good = member_numbers(&s.members[0]).unwrap();
+    assert_eq!(member_fault(&good), Ok(()));
     let mut threes = [0; 26];
     for j in 0..26 {
         for v in edges() {
             let mut numbers = good;
             numbers[j] = v;
-            let expected = check_member_numbers(&numbers);
+            let expected = check_member(&member_of(&numbers));
             assert_eq!(member_fault(&numbers), expected, "field {} = {v}", j + 1);
-            threes[j] += u32::from(expected == 3);
+            threes[j] += u32::from(expected == Err(Refusal::of_record(3)));
         }
     }
     assert!(threes.iter().all(|&n| n > 0), "every field's 3: {threes:?}");
-    let s = small();
-    let header = s.header.fields().map(|v| v as u64);
     for j in 0..6 {
         for v in edges() {
-            let mut numbers = header;
+            let mut numbers = header_numbers(&s.header);
             numbers[j] = v;
-            assert_eq!(header_fault(&numbers), fault(check_header(&Header::from_fields(&numbers.map(i128::from)))), "B field {} = {v}", j + 1);
+            assert_eq!(header_fault(&numbers), check_header(&header_of(&numbers)), "B field {} = {v}", j + 1);
         }
     }
-    let storey = s.storeys[0].fields().map(|v| v as u64);
     for j in 0..3 {
         for v in edges() {
-            let mut numbers = storey;
+            let mut numbers = storey_numbers(&s.storeys[0]);
             numbers[j] = v;
-            assert_eq!(storey_fault(&numbers), fault(check_storey(&Storey::from_fields(&numbers.map(i128::from)))), "S field {} = {v}", j + 1);
+            assert_eq!(storey_fault(&numbers), check_storey(&storey_of(&numbers)), "S field {} = {v}", j + 1);
         }
     }
 }
@@ -168,25 +162,24 @@ fn edges() -> Vec<u64> {
 fn wild_records() {
     let mut rng = Rng::new(SEED + 3);
     for _ in 0..20_000 {
-        let m: Member = wild_member(&mut rng);
+        let m = wild_member(&mut rng);
         if let Some(numbers) = member_numbers(&m) {
-            assert_eq!(member_fault(&numbers), fault(check_member(&m)), "{m:?}");
+            assert_eq!(member_fault(&numbers), check_member(&m), "{m:?}");
         }
         let h = wild_header(&mut rng);
-        assert_eq!(header_fault(&h.fields().map(|v| v as u64)), fault(check_header(&h)), "{h:?}");
+        assert_eq!(header_fault(&header_numbers(&h)), check_header(&h), "{h:?}");
         let s = wild_storey(&mut rng);
-        assert_eq!(storey_fault(&s.fields().map(|v| v as u64)), fault(check_storey(&s)), "{s:?}");
+        assert_eq!(storey_fault(&storey_numbers(&s)), check_storey(&s), "{s:?}");
     }
 }
 
 #[test]
 fn a_record_with_a_missing_field_is_refused() {
     let s = small();
+    let (header, storey) = (header_numbers(&s.header), storey_numbers(&s.storeys[0]));
     let member = member_numbers(&s.members[0]).unwrap();
-    let header = s.header.fields().map(|v| v as u64);
-    let storey = s.storeys[0].fields().map(|v| v as u64);
-    assert_eq!((header_fault(&header), storey_fault(&storey), member_fault(&member)), (0, 0, 0));
-    (0..6).for_each(|n| assert_eq!(header_fault(&header[..n]), 3, "B with {n} fields"));
-    (0..3).for_each(|n| assert_eq!(storey_fault(&storey[..n]), 3, "S with {n} fields"));
-    (0..26).for_each(|n| assert_eq!(member_fault(&member[..n]), 3, "M with {n} fields"));
+    assert_eq!((raw::header_fault(&header), raw::storey_fault(&storey), raw::member_fault(&member)), (0, 0, 0));
+    (0..6).for_each(|n| assert_eq!(raw::header_fault(&header[..n]), 3, "B with {n} fields"));
+    (0..3).for_each(|n| assert_eq!(raw::storey_fault(&storey[..n]), 3, "S with {n} fields"));
+    (0..26).for_each(|n| assert_eq!(raw::member_fault(&member[..n]), 3, "M with {n} fields"));
 }

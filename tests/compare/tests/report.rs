@@ -1,9 +1,8 @@
 //! The report call against the independent program, byte by byte.
-use compare::{
-    header_numbers, member_rows, pattern, report, report_into, same_report, sheet_len, storey_rows, worked_example, WORKED_SHEET,
-};
+use compare::{header_numbers, member_rows, pattern, report, same_report, sheet_len, storey_rows, worked_example, WORKED_SHEET};
 use generator::{edge_member_for, lent_bytes, surveys_at_rows, valid_survey, wild_survey, Rng};
 use independent::{Header, Member, Refusal, Storey, Survey};
+use llunareth::raw;
 
 const SEED: u64 = 20_260_118;
 const NINE: Option<Refusal> = Some(Refusal { number: 9, line: 0 });
@@ -91,10 +90,8 @@ fn a_survey_without_rows() {
 
 /// The sheet of a good survey by the proved call.
 fn sheet(survey: &Survey) -> Vec<u8> {
-    let mut sheet = pattern(sheet_len(survey));
     let rows = member_rows(&survey.members).expect("good members");
-    assert_eq!(report(&survey.header, &survey.storeys, &rows, &mut sheet), Ok(sheet.len()));
-    sheet
+    report(&survey.header, &survey.storeys, &rows, &mut pattern(sheet_len(survey))).expect("accepted")
 }
 
 /// The survey with each storey's members in the order given for it.
@@ -158,7 +155,7 @@ fn ten_numbers_go_out_or_none() {
     let rows = member_rows(&survey.members).expect("good members");
     for n in [0, 1, 9, 10, 12] {
         let mut out = vec![5; n];
-        report_into(&header, &storeys, &rows, &mut pattern(272), &mut out);
+        raw::report(&header, &storeys, &rows, &mut pattern(272), &mut out);
         let put: &[u64] = if n < 10 { &[] } else { &[0, 0, 272, 0, 0, 0, 0, 0, 0, 0] };
         assert_eq!((&out[..put.len()], &out[put.len()..]), (put, &vec![5; n - put.len()][..]));
     }
@@ -171,7 +168,7 @@ fn a_header_with_a_missing_number_is_refused() {
     let rows = member_rows(&survey.members).expect("good members");
     for n in 0..6 {
         let (mut buffer, mut out) = (pattern(300), [u64::MAX; 10]);
-        report_into(&header[..n], &storeys, &rows, &mut buffer, &mut out);
+        raw::report(&header[..n], &storeys, &rows, &mut buffer, &mut out);
         assert_eq!(out, [1, 0, 0, 0, 0, 0, 0, 0, 0, 0], "B with {n} fields");
         assert_eq!(buffer, pattern(300));
     }

@@ -1,5 +1,5 @@
 //! How the time of reading and judging grows with the survey, and against the independent program: ratios within one run.
-use compare::{judge_building, member_rows, plain_column, read_into, MemberRow, StoreyRow};
+use compare::{header_numbers, member_rows, plain_column, storey_rows, MemberRow, StoreyRow};
 use generator::write_survey;
 use independent::{Header, Member, Storey, Survey};
 use std::hint::black_box;
@@ -29,14 +29,15 @@ fn main() {
     for n in [1, 2, 4, 8] {
         let s = survey(n);
         let bytes = write_survey(&s);
-        let rows = member_rows(&s.members).expect("good members");
-        let (mut storeys, mut members) = (vec![StoreyRow([0; 3]); 10], vec![MemberRow([0; 26]); 2_000]);
-        let mut out = [0; 10];
-        let read = fastest(|| read_into(black_box(&bytes), &mut storeys, &mut members, &mut out));
-        assert_eq!(out[0], 0, "accepted");
+        let header = llunareth::Header::from(header_numbers(&s.header));
+        let rows = (storey_rows(&s.storeys), member_rows(&s.members).expect("good members"));
+        let (mut storeys, mut members) = (vec![StoreyRow::default(); 10], vec![MemberRow::default(); 2_000]);
+        let read = fastest(|| {
+            black_box(llunareth::read(black_box(&bytes), &mut storeys, &mut members)).expect("accepted");
+        });
         let read_other = fastest(|| drop(black_box(independent::read(black_box(&bytes), 10, 2_000))));
         let judge = fastest(|| {
-            black_box(judge_building(&s.header, &s.storeys, black_box(&rows))).ok();
+            black_box(llunareth::judge_building(&header, &rows.0, black_box(&rows.1))).expect("accepted");
         });
         let judge_other = fastest(|| drop(black_box(independent::judge_building(&s.header, &s.storeys, black_box(&s.members)))));
         let (read_one, judge_one) = *one.get_or_insert((read, judge));

@@ -1,0 +1,201 @@
+/*
+ * The calls of Llunareth for programs in C (C99 and later) and C++. Link with target/staticlib/libexports.a, which `rt staticlib exports`
+ * makes. docs/FORMAT.md has the survey file and the fields with their units and ranges; docs/REFUSALS.md has the refusals.
+ *
+ * A buffer is handed over as a pointer and the number of its elements. The pointer is not null, also where there are none, and a buffer that
+ * a call may change overlaps no other.
+ *
+ * A record handed in as numbers has them in the order of its line. A number that is not given is refused; numbers past the last field are
+ * not looked at. A row is handed in as numbers by (const uint64_t *)&row.
+ *
+ * Most calls put out ten numbers: refusal (0 for none), line (0 except when reading), then the values; a refusal has zeros for them. A
+ * buffer that does not hold ten numbers is left as it was, and one that holds more is left as it was after the tenth.
+ */
+#ifndef LLUNARETH_H
+#define LLUNARETH_H
+
+#include <stdbool.h>
+#include <stddef.h>
+#include <stdint.h>
+
+#ifdef __cplusplus
+extern "C" {
+#endif
+
+/* How many numbers are put out, and how many a record has. */
+enum {
+    LLUNARETH_NUMBERS = 10,
+    LLUNARETH_HEADER_NUMBERS = 6,
+    LLUNARETH_STOREY_NUMBERS = 3,
+    LLUNARETH_MEMBER_NUMBERS = 26
+};
+
+/* N_D and N_K are counted from -1,000,000: this number stands for 0. */
+enum { LLUNARETH_ZERO_FORCE = 1000000 };
+
+/* What llunareth_determine takes and lends: the longest file and the rows it is read into, and the longest sheet. */
+enum {
+    LLUNARETH_FILE_MOST = 65536,
+    LLUNARETH_STOREY_ROWS = 10,
+    LLUNARETH_MEMBER_ROWS = 320,
+    LLUNARETH_SHEET_MOST = 28286
+};
+
+/* The S line. */
+struct llunareth_storey {
+    uint64_t number;
+    uint64_t shear; /* storey shear, 0.1 kN */
+    uint64_t count; /* how many M lines follow */
+};
+
+/* What one load case brings to a member: fields 19 to 26. Forces are in 0.1 kN, moments in 0.1 kNm. */
+struct llunareth_load_case {
+    uint64_t nk;       /* N_K, counted from -1,000,000 */
+    uint64_t me;       /* M_e, moment demand */
+    uint64_t mp;       /* M_p, moment capacity */
+    uint64_t ve;       /* V_e, shear demand */
+    uint64_t vr;       /* V_r, shear capacity */
+    uint64_t shear;    /* V, shear from modal analysis */
+    uint64_t rotation; /* microradians */
+    uint64_t drift;    /* millionths */
+};
+
+/*
+ * The M line: a column or a wall. Lengths are in mm. The names are those of docs/FORMAT.md, but for long_side, short_side and load_case:
+ * long, short and case are words of C.
+ */
+struct llunareth_member {
+    uint64_t number;
+    uint64_t long_side;
+    uint64_t short_side;
+    uint64_t area;         /* A_c, mm2 */
+    uint64_t fcm;          /* f_cm, 0.1 MPa */
+    uint64_t fctm;         /* f_ctm, 0.01 MPa */
+    uint64_t fyw;          /* f_yw, 0.1 MPa */
+    uint64_t depth;        /* d */
+    uint64_t height;       /* H_w, height of the wall */
+    uint64_t spacing;      /* s, hoop spacing */
+    uint64_t core;         /* b_k, core width */
+    uint64_t hoops;        /* A_sh, hoop area, mm2 */
+    uint64_t hooks;        /* 135 degrees at both ends, 0 or 1 */
+    uint64_t zone;         /* boundary zone of a wall, 0 or 1 */
+    uint64_t strengthened; /* 0 or 1 */
+    uint64_t factor;       /* reduction factor, hundredths */
+    uint64_t damage;       /* worst damage kind, 0 to 4 */
+    uint64_t nd;           /* N_D, 0.1 kN, counted from -1,000,000 */
+    struct llunareth_load_case load_case;
+};
+
+#if defined(__cplusplus) && __cplusplus >= 201103L
+#define LLUNARETH_ASSERT(fact, text) static_assert(fact, text)
+#elif defined(__STDC_VERSION__) && __STDC_VERSION__ >= 201112L
+#define LLUNARETH_ASSERT(fact, text) _Static_assert(fact, text)
+#endif
+#ifdef LLUNARETH_ASSERT
+LLUNARETH_ASSERT(sizeof(struct llunareth_storey) == 8 * LLUNARETH_STOREY_NUMBERS, "a storey row is 3 numbers");
+LLUNARETH_ASSERT(sizeof(struct llunareth_load_case) == 8 * 8, "a load case is 8 numbers");
+LLUNARETH_ASSERT(sizeof(struct llunareth_member) == 8 * LLUNARETH_MEMBER_NUMBERS, "a member row is 26 numbers");
+#undef LLUNARETH_ASSERT
+#endif
+
+/* Places among the ten numbers of every call. */
+enum { LLUNARETH_REFUSAL = 0, LLUNARETH_LINE = 1 };
+
+/* Places in the answer of llunareth_read: the six fields of B, which begin at LLUNARETH_READ_HEADER, and the rows filled. */
+enum {
+    LLUNARETH_READ_HEADER = 2,
+    LLUNARETH_READ_KNOWLEDGE = 2, /* k, hundredths */
+    LLUNARETH_READ_HEIGHT = 3,    /* H_T, mm */
+    LLUNARETH_READ_STOREYS = 4,   /* n_s */
+    LLUNARETH_READ_TILT1 = 5,     /* microradians */
+    LLUNARETH_READ_TILT2 = 6,
+    LLUNARETH_READ_COUNT = 7,     /* number of S lines */
+    LLUNARETH_READ_STOREY_ROWS = 8,
+    LLUNARETH_READ_MEMBER_ROWS = 9
+};
+
+/* Places in the answer of llunareth_judge_member. */
+enum {
+    LLUNARETH_MEMBER_CLASS = 2,    /* 1 to 3 columns A to C, 4 and 5 walls A and B */
+    LLUNARETH_MEMBER_M = 3,        /* ten-thousandths, as its limit */
+    LLUNARETH_MEMBER_M_LIMIT = 4,
+    LLUNARETH_MEMBER_ROTATION = 5, /* microradians, as its limit */
+    LLUNARETH_MEMBER_ROTATION_LIMIT = 6,
+    LLUNARETH_MEMBER_OVER = 7,     /* 0 or 1 */
+    LLUNARETH_MEMBER_ND = 8        /* the axial ratio n_D, ten-thousandths */
+};
+
+/* Places in the answer of llunareth_judge_storey. */
+enum {
+    LLUNARETH_STOREY_AXIAL = 2,   /* total of n_D */
+    LLUNARETH_STOREY_MEMBERS = 3, /* c */
+    LLUNARETH_STOREY_OVER = 4,    /* P, total of V over the members that are over */
+    LLUNARETH_STOREY_SHEAR = 5,   /* W, the storey shear */
+    LLUNARETH_STOREY_RISKY = 6,   /* 0 or 1 */
+    LLUNARETH_STOREY_WALLS = 7    /* 1 where the walls carry 0.40 of the storey shear or more, else 0 */
+};
+
+/* Places in the answer of llunareth_judge_building. */
+enum {
+    LLUNARETH_BUILDING_TILTED = 2, /* 1 where the larger tilt is above 25,000, else 0 */
+    LLUNARETH_BUILDING_RISKY = 3,  /* 0 or 1 */
+    LLUNARETH_BUILDING_PLACE = 4   /* a Risky storey's place, counted from 1; 0 where none is Risky */
+};
+
+/* Places in the answer of llunareth_report. */
+enum { LLUNARETH_REPORT_LENGTH = 2 };
+
+/*
+ * Reads a survey file. Accepted: the storeys and the members fill the rows from the front, in the order of the file, and the rows after
+ * them are left alone. Refused, by 1 to 8 with the line: all rows are left alone.
+ */
+void llunareth_read(const uint8_t *file, size_t file_len, struct llunareth_storey *storeys, size_t storeys_len,
+                    struct llunareth_member *members, size_t members_len, uint64_t *out, size_t out_len);
+
+/* The number of a header's refusal: 0 for none, else 3 or 7. */
+uint64_t llunareth_header_fault(const uint64_t *values, size_t values_len);
+
+/* The number of a storey's refusal: 0 for none, else 3. Its members are not looked at. */
+uint64_t llunareth_storey_fault(const uint64_t *values, size_t values_len);
+
+/* The number of a member's refusal: 0 for none, else 3 or 4. */
+uint64_t llunareth_member_fault(const uint64_t *values, size_t values_len);
+
+/* Judges a member with k and whether its storey meets the 0.40 condition. Refused by 3, k's first, or 4. */
+void llunareth_judge_member(uint64_t k, bool met, const uint64_t *values, size_t values_len, uint64_t *out, size_t out_len);
+
+/*
+ * Judges a storey, given by its numbers, with k and the rows of its members. Refused by 1 where its count is not the rows; by 3, 4, 5 or
+ * 10.
+ */
+void llunareth_judge_storey(uint64_t k, const uint64_t *storey, size_t storey_len, const struct llunareth_member *members,
+                            size_t members_len, uint64_t *out, size_t out_len);
+
+/*
+ * Judges a building, given by its header's numbers, the rows of its storeys, and the rows of the members of all of them in survey order.
+ * Refused by 1 where a count is not the rows; by 3, 4, 5, 7 or 10.
+ */
+void llunareth_judge_building(const uint64_t *header, size_t header_len, const struct llunareth_storey *storeys, size_t storeys_len,
+                              const struct llunareth_member *members, size_t members_len, uint64_t *out, size_t out_len);
+
+/*
+ * Writes the sheet of a building, given as for its judgment, from the front of the bytes `sheet`; those after it are left alone. It has 86
+ * bytes for each member, 74 for each storey and 26 for the building, and no byte 0 is put after it. Refused as the judgment is, then by 9
+ * where the sheet does not fit: all bytes are left alone.
+ */
+void llunareth_report(const uint64_t *header, size_t header_len, const struct llunareth_storey *storeys, size_t storeys_len,
+                      const struct llunareth_member *members, size_t members_len, uint8_t *sheet, size_t sheet_len, uint64_t *out,
+                      size_t out_len);
+
+/*
+ * Puts what the program `determine` prints for a file from the front of the bytes `text` and returns its length; the bytes after it are
+ * left alone. That is the sheet, or the line E (26 bytes) with refusal and line: with 8 and 0 where the file is longer than
+ * LLUNARETH_FILE_MOST, with 9 and 0 where the sheet does not fit. Where the line E does not fit, it returns 0 and leaves all bytes alone.
+ */
+size_t llunareth_determine(const uint8_t *file, size_t file_len, uint8_t *text, size_t text_len);
+
+#ifdef __cplusplus
+}
+#endif
+
+#endif

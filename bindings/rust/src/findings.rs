@@ -1,0 +1,61 @@
+//! What the calls answer.
+use std::fmt;
+
+/// A refusal by its number (docs/REFUSALS.md), with the line when reading, else line 0.
+#[derive(Clone, Copy, Debug, PartialEq, Eq, Hash)]
+pub struct Refusal {
+    pub number: u64,
+    pub line: u64,
+}
+
+impl fmt::Display for Refusal {
+    fn fmt(&self, f: &mut fmt::Formatter<'_>) -> fmt::Result {
+        match self.line {
+            0 => write!(f, "refused: {}", self.number),
+            line => write!(f, "refused: {} at line {line}", self.number),
+        }
+    }
+}
+
+impl std::error::Error for Refusal {}
+
+/// What is found of a member. Ratios are in ten-thousandths, rotations in microradians.
+#[derive(Clone, Copy, Debug, PartialEq, Eq, Hash)]
+pub struct MemberFinding {
+    /// 1 to 3 columns A to C, 4 and 5 walls A and B.
+    pub class: u64,
+    pub m: u64,
+    pub m_limit: u64,
+    pub rotation: u64,
+    pub rotation_limit: u64,
+    /// Past either limit.
+    pub over: bool,
+    /// The axial ratio n_D.
+    pub nd: u64,
+}
+
+/// What is found of a storey. Forces are in 0.1 kN.
+#[derive(Clone, Copy, Debug, PartialEq, Eq, Hash)]
+pub struct StoreyFinding {
+    /// Σ, the total of n_D, ten-thousandths.
+    pub axial: u64,
+    /// c.
+    pub members: u64,
+    /// P, the total of V over the members that are over.
+    pub over: u64,
+    /// W, the storey shear.
+    pub shear: u64,
+    pub risky: bool,
+    /// Whether the walls carry 0.40 of the storey shear or more.
+    pub walls: bool,
+}
+
+/// What is found of a building.
+#[derive(Clone, Copy, Debug, PartialEq, Eq, Hash)]
+pub struct BuildingFinding {
+    /// The larger tilt is above 25,000 microradians.
+    pub tilted: bool,
+    pub risky: bool,
+    /// A Risky storey's place, counted from 1; 0 where none is Risky.
+    pub place: u64,
+}

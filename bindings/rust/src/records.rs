@@ -1,0 +1,125 @@
+//! The records of a survey, laid out as the proved library has them. Ranges stand in docs/FORMAT.md.
+
+/// N_D and N_K are counted from -1,000,000: this number stands for 0.
+pub const ZERO_FORCE: u64 = 1_000_000;
+
+/// The B line.
+#[repr(C)]
+#[derive(Clone, Copy, Debug, Default, PartialEq, Eq, Hash)]
+pub struct Header {
+    /// Knowledge level k, hundredths.
+    pub knowledge: u64,
+    /// H_T, mm.
+    pub height: u64,
+    /// n_s.
+    pub storeys: u64,
+    /// The two tilts, microradians.
+    pub tilt1: u64,
+    pub tilt2: u64,
+    /// How many S lines follow.
+    pub count: u64,
+}
+
+/// The S line.
+#[repr(C)]
+#[derive(Clone, Copy, Debug, Default, PartialEq, Eq, Hash)]
+pub struct Storey {
+    pub number: u64,
+    /// Storey shear, 0.1 kN.
+    pub shear: u64,
+    /// How many M lines follow.
+    pub count: u64,
+}
+
+/// The M line: a column or a wall. Forces are in 0.1 kN, moments in 0.1 kNm, lengths in mm.
+#[repr(C)]
+#[derive(Clone, Copy, Debug, Default, PartialEq, Eq, Hash)]
+pub struct Member {
+    pub number: u64,
+    pub long: u64,
+    pub short: u64,
+    /// A_c, mm².
+    pub area: u64,
+    /// f_cm, 0.1 MPa.
+    pub fcm: u64,
+    /// f_ctm, 0.01 MPa.
+    pub fctm: u64,
+    /// f_yw, 0.1 MPa.
+    pub fyw: u64,
+    /// d.
+    pub depth: u64,
+    /// H_w, height of the wall.
+    pub height: u64,
+    /// s, hoop spacing.
+    pub spacing: u64,
+    /// b_k, core width.
+    pub core: u64,
+    /// A_sh, hoop area, mm².
+    pub hoops: u64,
+    /// Hooks of 135° at both ends, 0 or 1.
+    pub hooks: u64,
+    /// Boundary zone of a wall, 0 or 1.
+    pub zone: u64,
+    /// 0 or 1.
+    pub strengthened: u64,
+    /// Reduction factor, hundredths.
+    pub factor: u64,
+    /// Worst damage kind, 0 to 4.
+    pub damage: u64,
+    /// N_D, counted from -1,000,000 ([`ZERO_FORCE`]).
+    pub nd: u64,
+    pub case: LoadCase,
+}
+
+/// What one load case brings to a member.
+#[repr(C)]
+#[derive(Clone, Copy, Debug, Default, PartialEq, Eq, Hash)]
+pub struct LoadCase {
+    /// N_K, counted from -1,000,000 ([`ZERO_FORCE`]).
+    pub nk: u64,
+    /// M_e, moment demand.
+    pub me: u64,
+    /// M_p, moment capacity.
+    pub mp: u64,
+    /// V_e, shear demand.
+    pub ve: u64,
+    /// V_r, shear capacity.
+    pub vr: u64,
+    /// V, shear from modal analysis.
+    pub shear: u64,
+    /// Microradians.
+    pub rotation: u64,
+    /// Millionths.
+    pub drift: u64,
+}
+
+/// From a record to its numbers in the order of its line, and back.
+macro_rules! numbers {
+    ($record:ty, $count:literal) => {
+        impl From<$record> for [u64; $count] {
+            fn from(record: $record) -> Self {
+                // Sound: the record is so many u64, one after another.
+                unsafe { std::mem::transmute(record) }
+            }
+        }
+
+        impl From<[u64; $count]> for $record {
+            fn from(numbers: [u64; $count]) -> Self {
+                // Sound: the record is so many u64, one after another, and may hold any.
+                unsafe { std::mem::transmute(numbers) }
+            }
+        }
+    };
+}
+
+numbers!(Header, 6);
+numbers!(Storey, 3);
+numbers!(Member, 26);
+
+/// A survey that was read: its header and the rows filled, the members of all storeys in survey order.
+#[derive(Clone, Copy, Debug, PartialEq, Eq)]
+pub struct Survey<'a> {
+    pub header: Header,
+    pub storeys: &'a [Storey],
+    pub members: &'a [Member],
+}

@@ -1,0 +1,151 @@
+/*
+ * Prints what the calls of llunareth.h answer for the survey on standard input, by the names of the fields and places: a word and numbers in
+ * each line, then the report and what `determine` prints. C99 and C++11.
+ */
+#include <inttypes.h>
+#include <stdio.h>
+
+#include "llunareth.h"
+
+#define COUNT(array) (sizeof(array) / sizeof((array)[0]))
+
+enum { FILE_ROOM = 100000 };
+
+static uint8_t file[FILE_ROOM];
+static uint8_t text[LLUNARETH_SHEET_MOST];
+static struct llunareth_storey storeys[LLUNARETH_STOREY_ROWS];
+static struct llunareth_member members[LLUNARETH_MEMBER_ROWS];
+
+static void print(const char *word, const uint64_t *numbers, size_t count)
+{
+    fputs(word, stdout);
+    for (size_t i = 0; i < count; i++) {
+        printf(" %" PRIu64, numbers[i]);
+    }
+    putchar('\n');
+}
+
+static void print_storey(const struct llunareth_storey *s)
+{
+    const uint64_t numbers[] = {s->number, s->shear, s->count};
+    print("S", numbers, LLUNARETH_STOREY_NUMBERS);
+}
+
+static void print_member(const struct llunareth_member *m)
+{
+    const struct llunareth_load_case *c = &m->load_case;
+    const uint64_t numbers[] = {
+        m->number, m->long_side, m->short_side, m->area, m->fcm, m->fctm, m->fyw, m->depth, m->height,
+        m->spacing, m->core, m->hoops, m->hooks, m->zone, m->strengthened, m->factor, m->damage, m->nd,
+        c->nk, c->me, c->mp, c->ve, c->vr, c->shear, c->rotation, c->drift,
+    };
+    print("M", numbers, COUNT(numbers));
+}
+
+/* The three checks of a record, on all its numbers and on all but the last. */
+static void check_records(const uint64_t *header)
+{
+    const uint64_t *storey = (const uint64_t *)&storeys[0];
+    const uint64_t *member = (const uint64_t *)&members[0];
+    const uint64_t faults[] = {
+        llunareth_header_fault(header, LLUNARETH_HEADER_NUMBERS),
+        llunareth_storey_fault(storey, LLUNARETH_STOREY_NUMBERS),
+        llunareth_member_fault(member, LLUNARETH_MEMBER_NUMBERS),
+        llunareth_header_fault(header, LLUNARETH_HEADER_NUMBERS - 1),
+        llunareth_storey_fault(storey, LLUNARETH_STOREY_NUMBERS - 1),
+        llunareth_member_fault(member, LLUNARETH_MEMBER_NUMBERS - 1),
+    };
+    print("faults", faults, COUNT(faults));
+}
+
+static void judge_member(uint64_t k, bool met, const struct llunareth_member *m)
+{
+    uint64_t out[LLUNARETH_NUMBERS] = {0};
+    llunareth_judge_member(k, met, (const uint64_t *)m, LLUNARETH_MEMBER_NUMBERS, out, LLUNARETH_NUMBERS);
+    const uint64_t found[] = {
+        out[LLUNARETH_REFUSAL],         out[LLUNARETH_MEMBER_CLASS],          out[LLUNARETH_MEMBER_M],    out[LLUNARETH_MEMBER_M_LIMIT],
+        out[LLUNARETH_MEMBER_ROTATION], out[LLUNARETH_MEMBER_ROTATION_LIMIT], out[LLUNARETH_MEMBER_OVER], out[LLUNARETH_MEMBER_ND],
+    };
+    print("member", found, COUNT(found));
+}
+
+/* A storey, then each of its members with the storey's 0.40 condition. */
+static void judge_storey(uint64_t k, const struct llunareth_storey *s, const struct llunareth_member *own)
+{
+    uint64_t out[LLUNARETH_NUMBERS] = {0};
+    llunareth_judge_storey(k, (const uint64_t *)s, LLUNARETH_STOREY_NUMBERS, own, (size_t)s->count, out, LLUNARETH_NUMBERS);
+    const uint64_t found[] = {
+        out[LLUNARETH_REFUSAL],      out[LLUNARETH_STOREY_AXIAL], out[LLUNARETH_STOREY_MEMBERS], out[LLUNARETH_STOREY_OVER],
+        out[LLUNARETH_STOREY_SHEAR], out[LLUNARETH_STOREY_RISKY], out[LLUNARETH_STOREY_WALLS],
+    };
+    print("storey", found, COUNT(found));
+    for (uint64_t i = 0; i < s->count; i++) {
+        judge_member(k, out[LLUNARETH_STOREY_WALLS] == 1, &own[i]);
+    }
+}
+
+static void judge_building(const uint64_t *header, size_t storey_rows, size_t member_rows)
+{
+    uint64_t out[LLUNARETH_NUMBERS] = {0};
+    llunareth_judge_building(header, LLUNARETH_HEADER_NUMBERS, storeys, storey_rows, members, member_rows, out, LLUNARETH_NUMBERS);
+    const uint64_t found[] = {
+        out[LLUNARETH_REFUSAL],
+        out[LLUNARETH_BUILDING_TILTED],
+        out[LLUNARETH_BUILDING_RISKY],
+        out[LLUNARETH_BUILDING_PLACE],
+    };
+    print("building", found, COUNT(found));
+}
+
+static void report(const uint64_t *header, size_t storey_rows, size_t member_rows)
+{
+    uint64_t out[LLUNARETH_NUMBERS] = {0};
+    llunareth_report(header, LLUNARETH_HEADER_NUMBERS, storeys, storey_rows, members, member_rows, text, sizeof text, out,
+                     LLUNARETH_NUMBERS);
+    const uint64_t found[] = {out[LLUNARETH_REFUSAL], out[LLUNARETH_REPORT_LENGTH]};
+    print("report", found, COUNT(found));
+    fwrite(text, 1, (size_t)out[LLUNARETH_REPORT_LENGTH], stdout);
+}
+
+/* The records that were read, then each call on them. */
+static void call_all(const uint64_t *read)
+{
+    const uint64_t *header = read + LLUNARETH_READ_HEADER;
+    const size_t storey_rows = (size_t)read[LLUNARETH_READ_STOREY_ROWS];
+    const size_t member_rows = (size_t)read[LLUNARETH_READ_MEMBER_ROWS];
+    const struct llunareth_member *own = members;
+    for (size_t i = 0; i < storey_rows; i++) {
+        print_storey(&storeys[i]);
+    }
+    for (size_t i = 0; i < member_rows; i++) {
+        print_member(&members[i]);
+    }
+    check_records(header);
+    for (size_t i = 0; i < storey_rows; i++) {
+        judge_storey(read[LLUNARETH_READ_KNOWLEDGE], &storeys[i], own);
+        own += storeys[i].count;
+    }
+    judge_building(header, storey_rows, member_rows);
+    report(header, storey_rows, member_rows);
+}
+
+int main(void)
+{
+    const uint64_t sizes[] = {sizeof(struct llunareth_storey), sizeof(struct llunareth_load_case), sizeof(struct llunareth_member)};
+    const size_t length = fread(file, 1, sizeof file, stdin);
+    uint64_t read[LLUNARETH_NUMBERS] = {0};
+    llunareth_read(file, length, storeys, LLUNARETH_STOREY_ROWS, members, LLUNARETH_MEMBER_ROWS, read, LLUNARETH_NUMBERS);
+    const uint64_t told[] = {
+        read[LLUNARETH_REFUSAL],      read[LLUNARETH_LINE],       read[LLUNARETH_READ_KNOWLEDGE], read[LLUNARETH_READ_HEIGHT],
+        read[LLUNARETH_READ_STOREYS], read[LLUNARETH_READ_TILT1], read[LLUNARETH_READ_TILT2],     read[LLUNARETH_READ_COUNT],
+    };
+    print("sizes", sizes, COUNT(sizes));
+    print("read", told, COUNT(told));
+    if (read[LLUNARETH_REFUSAL] == 0) {
+        call_all(read);
+    }
+    const uint64_t put = llunareth_determine(file, length, text, sizeof text);
+    print("determine", &put, 1);
+    fwrite(text, 1, (size_t)put, stdout);
+    return 0;
+}

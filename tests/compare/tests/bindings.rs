@@ -1,0 +1,260 @@
+//! The header for C and C++ and the program `verdict`, over the proved library, against the independent program.
+use compare::{header_numbers, judge_building, member_numbers, member_rows, refusal_told, samples, storey_numbers, worked_example};
+use generator::{any_file, valid_survey, write_survey, Rng};
+use independent::{Member, Storey, Survey};
+use std::fs::{self, File};
+use std::io::Write;
+use std::path::{Path, PathBuf};
+use std::process::{Command, Output, Stdio};
+use std::sync::OnceLock;
+
+const SEED: u64 = 20_260_120;
+
+fn root() -> PathBuf {
+    Path::new(env!("CARGO_MANIFEST_DIR")).join("../..")
+}
+
+/// A file in the folder of these tests' own files.
+fn own(name: &str) -> PathBuf {
+    Path::new(env!("CARGO_TARGET_TMPDIR")).join(name)
+}
+
+// ---- compiling ----
+
+/// A compiler that finds the header and takes every warning for an error.
+fn compiler(name: &str, standard: &str) -> Command {
+    let mut command = Command::new(name);
+    command.args([standard, "-Wall", "-Wextra", "-Wpedantic", "-Werror", "-I"]).arg(root().join("bindings/c"));
+    command
+}
+
+fn said(output: &Output) -> String {
+    String::from_utf8_lossy(&output.stderr).into_owned()
+}
+
+/// Builds a program of one file over the header and the proved library.
+fn build(compiler: &mut Command, source: &str, program: &str) -> PathBuf {
+    let (source, library) = (root().join(source), root().join("target/staticlib/libexports.a"));
+    let output = compiler.args([source, library]).arg("-o").arg(own(program)).output().expect("the compiler starts");
+    assert!(output.status.success(), "{}", said(&output));
+    own(program)
+}
+
+/// What the compiler says of a text.
+fn compile_text(compiler: &mut Command, language: &str, text: &str) -> Output {
+    compiler.args(["-fsyntax-only", "-x", language, "-"]).stdin(Stdio::piped()).stderr(Stdio::piped());
+    let mut child = compiler.spawn().expect("the compiler starts");
+    child.stdin.take().expect("a pipe").write_all(text.as_bytes()).expect("the text is read");
+    child.wait_with_output().expect("the compiler ends")
+}
+
+fn is_there(compiler: &str) -> bool {
+    Command::new(compiler).arg("--version").output().is_ok()
+}
+
+/// Compiler, standard and language of the header, as far as the compilers are there.
+fn languages() -> Vec<(&'static str, &'static str, &'static str)> {
+    let all = [("gcc", "-std=c99", "c"), ("gcc", "-std=c11", "c"), ("g++", "-std=c++11", "c++")];
+    all.into_iter().filter(|(name, ..)| *name == "gcc" || is_there(name)).collect()
+}
+
+#[test]
+fn the_header_alone() {
+    for (name, standard, language) in languages() {
+        let output = compile_text(&mut compiler(name, standard), language, "#include \"llunareth.h\"\n");
+        assert!(output.status.success(), "{name} {standard}: {}", said(&output));
+    }
+}
+
+/// With numbers of 32 bits the rows have other sizes: the standards that have static assertions refuse the header.
+#[test]
+fn the_header_asserts_the_sizes_of_the_rows() {
+    let narrow = "#include <stdint.h>\n#define uint64_t uint32_t\n#include \"llunareth.h\"\n";
+    for (name, standard, language) in languages() {
+        let output = compile_text(&mut compiler(name, standard), language, narrow);
+        let failed = said(&output).matches("static assertion failed").count();
+        assert_eq!(failed, if standard == "-std=c99" { 0 } else { 3 }, "{name} {standard}: {}", said(&output));
+    }
+}
+
+// ---- the program `verdict` ----
+
+fn verdict() -> Command {
+    static PROGRAM: OnceLock<PathBuf> = OnceLock::new();
+    Command::new(PROGRAM.get_or_init(|| build(&mut compiler("gcc", "-std=c99"), "bindings/c/verdict.c", "verdict")))
+}
+
+/// What a run printed, and its exit status.
+fn outcome(output: Output) -> (String, Option<i32>) {
+    (String::from_utf8(output.stdout).expect("text"), output.status.code())
+}
+
+fn by_name(path: &Path) -> (String, Option<i32>) {
+    outcome(verdict().arg(path).stdin(Stdio::null()).output().expect("verdict starts"))
+}
+
+fn by_input(path: &Path) -> (String, Option<i32>) {
+    outcome(verdict().stdin(File::open(path).expect("a file")).output().expect("verdict starts"))
+}
+
+/// The lines that may be printed for a file, one for each Risky storey, and the exit status.
+fn expected(file: &[u8]) -> (Vec<String>, i32) {
+    if let Some(told) = refusal_told(&independent::determine(file)) {
+        let line = if told.line == 0 { String::new() } else { format!(" at line {}", told.line) };
+        return (vec![format!("refused: {}{line}\n", told.number)], 1);
+    }
+    let survey = independent::read(file, 10, 320).expect("accepted");
+    let found = independent::judge_building(&survey.header, &survey.storeys, &survey.members).expect("accepted");
+    let number = |place: &u64| survey.storeys[*place as usize - 1].number;
+    let lines = match (found.risky, &found.risky_places[..]) {
+        (false, _) => vec!["not Risky\n".into()],
+        (true, []) => vec!["Risky: tilt\n".into()],
+        (true, places) => places.iter().map(|place| format!("Risky: storey {}\n", number(place))).collect(),
+    };
+    (lines, 0)
+}
+
+/// Panics unless `verdict` prints a line that may be, with its exit status, by name and by standard input; the line.
+fn same_verdict(path: &Path) -> String {
+    let (lines, status) = expected(&fs::read(path).expect("a file"));
+    let (printed, code) = by_name(path);
+    assert!(lines.contains(&printed) && code == Some(status), "{}: {printed}{code:?} for {lines:?}", path.display());
+    assert_eq!(by_input(path), (printed.clone(), code), "{} by standard input", path.display());
+    printed
+}
+
+#[test]
+fn verdict_on_the_samples() {
+    let path = |name: &String| samples::folder().join(format!("{name}.survey"));
+    let printed: Vec<String> = samples::names(".survey").iter().map(|name| same_verdict(&path(name))).collect();
+    for line in ["not Risky\n", "Risky: storey 1\n", "refused: 1 at line 6\n", "refused: 8\n"] {
+        assert!(printed.iter().any(|p| p == line), "{line}");
+    }
+}
+
+#[test]
+fn verdict_on_generated_files() {
+    let mut rng = Rng::new(SEED);
+    let path = own("generated.survey");
+    let mut seen = [0; 5];
+    for _ in 0..400 {
+        fs::write(&path, any_file(&mut rng)).expect("written");
+        let printed = same_verdict(&path);
+        let kinds = ["not Risky", "Risky: storey", "Risky: tilt", "refused: 8\n", "refused:"];
+        seen[kinds.iter().position(|kind| printed.starts_with(kind)).expect("a kind of line")] += 1;
+    }
+    assert!(seen.iter().all(|&n| n > 0), "every kind of line comes up: {seen:?}");
+}
+
+#[test]
+fn verdict_by_tilt_alone() {
+    let mut survey = worked_example();
+    survey.members.iter_mut().for_each(|m| (m.m_e, m.rotation) = (0, 0));
+    for (tilt, line) in [(25_000, "not Risky\n"), (25_001, "Risky: tilt\n")] {
+        let path = own("tilt.survey");
+        survey.header.tilt_2 = tilt;
+        fs::write(&path, write_survey(&survey)).expect("written");
+        assert_eq!(same_verdict(&path), line);
+    }
+}
+
+#[test]
+fn verdict_names_the_storey_by_its_number() {
+    let path = own("storey.survey");
+    let mut survey = worked_example();
+    survey.storeys[0].number = 9_999_999;
+    fs::write(&path, write_survey(&survey)).expect("written");
+    assert_eq!(same_verdict(&path), "Risky: storey 9999999\n");
+}
+
+#[test]
+fn verdict_on_lengths_about_the_most_that_is_read() {
+    let path = own("long.survey");
+    let mut bytes = write_survey(&worked_example());
+    for (len, line) in [(65_536, "refused: 6 at line 5\n"), (65_537, "refused: 8\n"), (200_000, "refused: 8\n")] {
+        bytes.resize(len, b' ');
+        fs::write(&path, &bytes).expect("written");
+        assert_eq!(same_verdict(&path), line, "{len} bytes");
+    }
+}
+
+#[test]
+fn verdict_on_what_cannot_be_read_or_written() {
+    let nothing = (String::new(), Some(2));
+    let survey = samples::folder().join("walls.survey");
+    assert_eq!(by_name(&own("missing.survey")), nothing);
+    assert_eq!(by_name(&samples::folder()), nothing);
+    assert_eq!(by_input(&samples::folder()), nothing);
+    assert_eq!(outcome(verdict().args([&survey, &survey]).output().expect("verdict starts")), nothing);
+    let full = File::options().write(true).open("/dev/full").expect("a device that is full");
+    assert_eq!(outcome(verdict().arg(&survey).stdout(full).output().expect("verdict starts")), nothing);
+}
+
+// ---- every call from C and C++ ----
+
+/// A line of a word and numbers.
+fn line(word: &str, numbers: &[u64]) -> String {
+    let numbers: String = numbers.iter().map(|n| format!(" {n}")).collect();
+    format!("{word}{numbers}\n")
+}
+
+/// The judgment of a storey and of its members.
+fn storey_lines(k: u64, s: &Storey, members: &[Member]) -> String {
+    let f = independent::judge_storey(k, s, members).expect("accepted");
+    let mut lines = line("storey", &[0, f.sum, f.c, f.p, f.w, f.risky.into(), f.meets_wall_share.into()]);
+    for m in members {
+        let f = independent::judge_member(k, f.meets_wall_share, m).expect("accepted");
+        lines += &line("member", &[0, f.class.into(), f.m, f.m_limit, f.rotation, f.rotation_limit, f.over.into(), f.n_d]);
+    }
+    lines
+}
+
+/// What calls.c prints of an accepted survey. The place is any Risky storey's, so it is taken over from the proved call.
+fn survey_lines(survey: &Survey) -> String {
+    let Survey { header, storeys, members } = survey;
+    let mut lines = line("read", &[&[0, 0], &header_numbers(header)[..]].concat());
+    lines.extend(storeys.iter().map(|s| line("S", &storey_numbers(s))));
+    lines.extend(members.iter().map(|m| line("M", &member_numbers(m).expect("a good member"))));
+    lines += "faults 0 0 0 3 3 3\n";
+    let mut rest = &members[..];
+    for s in storeys {
+        let (own, after) = rest.split_at(s.member_count as usize);
+        lines += &storey_lines(header.knowledge, s, own);
+        rest = after;
+    }
+    let found = independent::judge_building(header, storeys, members).expect("accepted");
+    let place = judge_building(header, storeys, &member_rows(members).expect("good members")).expect("accepted").place;
+    lines += &line("building", &[0, found.tilt_above.into(), found.risky.into(), place]);
+    let sheet = independent::report(header, storeys, members, usize::MAX).expect("accepted");
+    lines + &line("report", &[0, sheet.len() as u64]) + std::str::from_utf8(&sheet).expect("text")
+}
+
+/// What calls.c prints for a file.
+fn calls_lines(file: &[u8]) -> String {
+    let read = match independent::read(file, 10, 320) {
+        Ok(survey) => survey_lines(&survey),
+        Err(refusal) => line("read", &[refusal.number.into(), refusal.line, 0, 0, 0, 0, 0, 0]),
+    };
+    let printed = independent::determine(file);
+    "sizes 24 64 208\n".to_string() + &read + &line("determine", &[printed.len() as u64]) + std::str::from_utf8(&printed).expect("text")
+}
+
+/// The samples, and good surveys with other numbers in every field.
+fn files() -> Vec<Vec<u8>> {
+    let mut rng = Rng::new(SEED + 1);
+    let surveys = (0..60).map(|_| write_survey(&valid_survey(&mut rng)));
+    samples::all().into_iter().map(|sample| sample.survey).chain(surveys).collect()
+}
+
+#[test]
+fn every_call_by_the_names_of_the_header() {
+    for (name, standard, _) in languages() {
+        let program = build(&mut compiler(name, standard), "tests/compare/c/calls.c", &format!("calls{standard}"));
+        let path = own(&format!("calls{standard}.survey"));
+        for file in files() {
+            fs::write(&path, &file).expect("written");
+            let (printed, code) = outcome(Command::new(&program).stdin(File::open(&path).expect("a file")).output().expect("calls starts"));
+            assert_eq!((&printed, code), (&calls_lines(&file), Some(0)), "{name} {standard}");
+        }
+    }
+}
