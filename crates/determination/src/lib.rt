@@ -17,15 +17,21 @@ use report::sheet::write_report;
 
 pub mod answers;
 
-const INPUT_MOST: usize = 65_536;
+// The longest input.
+pub const INPUT_MOST: usize = 65_536;
+
+// The rows that are lent.
+pub const STOREY_ROWS: usize = 10;
+
+pub const MEMBER_ROWS: usize = 320;
 
 // An input that is not too long: a refused one has a blank header and no rows, of which the report call writes nothing.
 fn determine_file(input: &[u8], out: &mut [u8]) -> usize
     ensures { λ r. ⌜ r ≡ putLength (text (survey (now (input .entry)) storeyRows memberRows) (length (now (out .entry)))) (length (now (out .entry))) ⌝ }
     ensures { λ _. ⌜ now (out .exit) ≡ atFront (text (survey (now (input .entry)) storeyRows memberRows) (length (now (out .entry)))) (now (out .entry)) ⌝ }
 {
-    let mut storeys = [blank_storey(); 10];
-    let mut members = [blank_member(); 320];
+    let mut storeys = [blank_storey(); STOREY_ROWS];
+    let mut members = [blank_member(); MEMBER_ROWS];
     let r = read(input, &mut storeys, &mut members);
     let n = storeys_read(r);
     let m = members_in(r);

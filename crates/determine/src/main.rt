@@ -7,10 +7,10 @@ use libc::STDIN_FILENO;
 use libc::STDOUT_FILENO;
 
 // One byte more than the longest input, so that a longer one shows.
-const INPUT_ROOM: usize = 65_537;
+const INPUT_ROOM: usize = determination::INPUT_MOST + 1;
 
-// The longest sheet: 320 members of 86 bytes, 10 storeys of 74, the building of 26.
-const SHEET_ROOM: usize = 28_286;
+// The longest sheet: 86 bytes for each member, 74 for each storey, 26 for the building.
+const SHEET_ROOM: usize = 86 * determination::MEMBER_ROWS + 74 * determination::STOREY_ROWS + 26;
 
 // How many bytes stand in the buffer; or a read failed.
 enum Input {
@@ -49,7 +49,7 @@ fn read_input(buffer: &mut [u8]) -> Input
     Input::Bytes(done)
 }
 
-// One write of what is known of an input.
+// What an input comes to, in one write.
 fn print(input: &[u8]) {
     let mut sheet = [0; SHEET_ROOM];
     let n = determine(input, &mut sheet);

@@ -141,7 +141,7 @@ pub fn range_allows(tag: Tag, j: usize, v: u64, storeys: u64) -> bool
     }
 }
 
-pub fn field_count(tag: Tag) -> usize
+pub(crate) fn field_count(tag: Tag) -> usize
     ensures { λ r. ⌜ r ≡ fields tag ⌝ }
 {
     match tag {

@@ -90,10 +90,6 @@ buildingAnswerBy rules h ss ms place =
     (Judged (buildingFinding rules h ss ms place))
     (Refused (buildingFault rules h ss ms))
 
--- the answer on a building, by the published rules
-abbrev pub buildingAnswer : Header → List Storey → List Member → ℕ → BuildingAnswer
-buildingAnswer = buildingAnswerBy publishedRules
-
 -- "names a Risky storey's place, counted from 1. Which one is free where several are; 0 where none is"
 pub data PlaceOk (rules : Rules) (h : Header) (ss : List Storey) (ms : List Member) : ℕ → Type 0 where
   nowhere : someRisky rules h ss ms ≡ false → PlaceOk rules h ss ms 0

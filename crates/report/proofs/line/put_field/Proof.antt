@@ -42,8 +42,7 @@ loop-again : tie.Need-loop-again Inv-loop μ-loop
 loop-again c =
     let a = c .before .before .before .before .before .args in
     let l = c .before .before .loop in
-    let e : 12 - (l .left - 1) ≡ 12 - l .left + 1 = omega arith in
-    (
+    let e : 12 - (l .left - 1) ≡ 12 - l .left + 1 = omega arith in (
       omega arith,
       simp length-set (l .inv .1),
       rw e (column-left 32 (a .n) (12 - l .left) (l .c) (c .column-before .result) (l .inv .2) (c .column-before .ensures)),
