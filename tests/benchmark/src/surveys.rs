@@ -1,0 +1,151 @@
+//! The surveys that are measured: columns and walls of all classes as a survey of a concrete building has them.
+use generator::Rng;
+use independent::{Header, Member, Storey, Survey};
+
+/// The members of each storey in surveys of 10, 100 and 311 members. 311 are the most that a file of 65,536 bytes holds.
+pub const SIZES: [&[u64]; 3] = [&[5; 2], &[25; 4], &[52, 52, 52, 52, 52, 51]];
+
+/// The numbers of storeys of 200 members by which growth is measured.
+pub const GROWTH: [usize; 4] = [1, 2, 4, 8];
+
+/// The members of each storey where there are so many storeys of 200.
+pub fn growth(storeys: usize) -> Vec<u64> {
+    vec![200; storeys]
+}
+
+const SEED: u64 = 1;
+
+/// Hundredths.
+const KNOWLEDGE: u64 = 90;
+
+#[derive(Clone, Copy)]
+enum Kind {
+    ColumnA,
+    ColumnB,
+    ColumnC,
+    WallA,
+    WallB,
+}
+
+/// Members come in this order, again and again.
+const KINDS: [Kind; 10] = [
+    Kind::ColumnA,
+    Kind::ColumnB,
+    Kind::ColumnC,
+    Kind::WallA,
+    Kind::ColumnB,
+    Kind::ColumnA,
+    Kind::ColumnB,
+    Kind::WallB,
+    Kind::ColumnB,
+    Kind::WallA,
+];
+
+/// A survey whose storeys have so many members each; the same one for the same sizes.
+pub fn survey(sizes: &[u64]) -> Survey {
+    let mut rng = Rng::new(SEED);
+    let mut survey = Survey { header: header(sizes.len() as u64), ..Survey::default() };
+    for (number, &count) in (1..).zip(sizes) {
+        let first = survey.members.len();
+        for j in 0..count {
+            let kind = KINDS[survey.members.len() % KINDS.len()];
+            survey.members.push(Member { number: 1_000 * number + j + 1, ..member(&mut rng, kind) });
+        }
+        let shear = survey.members[first..].iter().map(|m| m.v).sum();
+        survey.storeys.push(Storey { number, shear, member_count: count });
+    }
+    survey
+}
+
+fn header(storeys: u64) -> Header {
+    Header {
+        knowledge: KNOWLEDGE,
+        height: 3_000 * storeys,
+        storeys_above_ground: storeys,
+        tilt_1: 3_100,
+        tilt_2: 1_250,
+        storey_count: storeys,
+    }
+}
+
+fn between(rng: &mut Rng, least: u64, most: u64) -> u64 {
+    rng.between(least.into(), most.into()) as u64
+}
+
+/// A number from one percentage of it to another.
+fn share(rng: &mut Rng, of: u64, least: u64, most: u64) -> u64 {
+    of * between(rng, least, most) / 100
+}
+
+fn member(rng: &mut Rng, kind: Kind) -> Member {
+    let mut m = ordinary(rng);
+    match kind {
+        Kind::ColumnA => column(rng, &mut m, true, (20, 60)),
+        Kind::ColumnB => column(rng, &mut m, false, (20, 95)),
+        Kind::ColumnC => column(rng, &mut m, false, (101, 140)),
+        Kind::WallA => wall(rng, &mut m, (120, 200)),
+        Kind::WallB => wall(rng, &mut m, (70, 100)),
+    }
+    m.d = m.long_side * 9 / 10;
+    m.m_e = share(rng, m.m_p, 30, 300);
+    m.v = share(rng, m.v_e, 40, 90);
+    m
+}
+
+/// What columns and walls have alike.
+fn ordinary(rng: &mut Rng) -> Member {
+    let f_cm = between(rng, 80, 250);
+    let damaged = rng.chance(10);
+    Member {
+        f_cm,
+        f_ctm: 80 + f_cm / 3,
+        f_yw: rng.pick(&[2_200, 4_200]),
+        h_w: 3_000 * between(rng, 3, 5),
+        strengthened: rng.chance(10).into(),
+        factor: if damaged { between(rng, 60, 95) } else { 100 },
+        damage_kind: if damaged { between(rng, 1, 3) } else { 0 },
+        m_p: between(rng, 500, 4_000),
+        rotation: between(rng, 300, 10_000),
+        drift: between(rng, 1_000, 15_000),
+        ..Member::default()
+    }
+}
+
+/// Detailed or not, with V_e from one percentage of V_r to another.
+fn column(rng: &mut Rng, m: &mut Member, detailed: bool, demand: (u64, u64)) {
+    m.short_side = 50 * between(rng, 5, 8);
+    m.long_side = m.short_side + 50 * between(rng, 0, 6);
+    m.b_k = m.short_side - 60;
+    m.hooks = detailed.into();
+    if detailed {
+        m.s = 10 * between(rng, 8, 10);
+        m.a_sh = 6 * m.f_cm * m.s * m.b_k / (100 * m.f_yw) + between(rng, 1, 100);
+    } else {
+        m.s = 10 * between(rng, 15, 25);
+        m.a_sh = between(rng, 57, 226);
+    }
+    m.v_r = between(rng, 500, 3_000);
+    m.v_e = share(rng, m.v_r, demand.0, demand.1);
+    axial(rng, m, 500, 9_500);
+}
+
+/// With v near the rows of the tables, and V_r from one percentage of V_e to another.
+fn wall(rng: &mut Rng, m: &mut Member, capacity: (u64, u64)) {
+    m.short_side = 50 * between(rng, 4, 6);
+    m.long_side = 100 * between(rng, 15, 40);
+    m.b_k = m.short_side - 50;
+    m.s = 10 * between(rng, 10, 25);
+    m.a_sh = between(rng, 57, 226);
+    m.boundary_zone = rng.chance(50).into();
+    m.v_e = between(rng, 7_000, 15_000) * m.short_side * (m.long_side * 9 / 10) / 100_000_000 * m.f_ctm;
+    m.v_r = share(rng, m.v_e, capacity.0, capacity.1);
+    axial(rng, m, 500, 3_000);
+}
+
+/// The area, and axial forces with n from the one number to the other; some of the earthquake in tension.
+fn axial(rng: &mut Rng, m: &mut Member, least: u64, most: u64) {
+    m.a_c = m.long_side * m.short_side;
+    let force = between(rng, least, most) * m.f_cm * m.a_c / 10_000_000;
+    m.n_d = share(rng, force, 70, 100) as i64;
+    m.n_k = if rng.chance(5) { -m.n_d / 4 } else { force as i64 };
+}
