@@ -1,5 +1,5 @@
 // From the bytes of a survey file to the bytes of the sheet, or of the `E` line (document 01, "The printed sheet"). The length of the longest input and the numbers
-// of rows that are lent stand here alone.
+// of rows that are lent are given here, and nowhere below.
 ghost use mathlib.Core.Path.{_≡_};
 ghost use lib.ListN.{length};
 ghost use Rattle.report.specs.Line.{atFront, putLength};

@@ -25,7 +25,8 @@ places =
       stress = two 9_000 13_000;
     }
 
--- the limits of m
+-- the limits of m: columns A, B (1 and 2 for the first and the second ρ) and C at the n above; wall A with boundary zone and without at the two v (1 and 2 for
+-- the first and the second n of walls); wall B at the two v
 unfoldable pub moments : Table
 moments =
     record {

@@ -1,64 +1,39 @@
 -- Laws of the spelling of a number, column by column.
 use Prim.Native.Nat.{ℕ, zero, suc, _+_, _-_, _*_, _/_, _%_, _^_, _≤_, _<_}
 use native.Mathlib.Omega.{arith}
-use native.Mathlib.Nat.{div-lt-iff-lt-mul, not-suc-le-zero, eq-or-lt-of-le, pow-suc, pow-le-pow-right}
+use native.Mathlib.Nat.{div-lt-iff-lt-mul, not-suc-le-zero, pow-suc, pow-le-pow-right}
 use native.Mathlib.Numerals.{add-one}
 use mathlib.Core.Bool.{Bool, true, false, _&&_}
 use mathlib.Core.List.{List, [], _∷_}
-use mathlib.Core.Logic.{⊎-elim}
-use mathlib.Core.Path.{_≡_, refl, sym, ap, _∙_}
+use mathlib.Core.Path.{_≡_, refl, sym, _∙_}
 use lib.Dec.{leb, ltb, eqb, eqb·suc-zero}
-use lib.ListN.{length, take, drop, getD, length-drop}
-use lib.Seq.{drop-cons, getD-take, getD-drop, length-take-le, ext-getD}
-use borrow.Author.Tests.{eqb-true, ltb-true, ltb-false, eq-eqb, ne-eqb, leb-true}
+use lib.ListN.{length, take, drop, getD}
+use lib.Seq.{drop-cons}
+use borrow.Author.Tests.{eqb-true, ltb-true, lt-ltb, le-ltb, eq-eqb, ne-eqb, leb-true}
 use Rattle.reading.specs.First.{pick}
-use Rattle.reading.specs.Column.{before, ColumnOf, Before}
-use Rattle.reading.specs.declared.spelling.Column.{Column}
 use Rattle.reading.specs.Spelling.{column, spelled, same, pushed, value}
 use Rattle.reading.proofs.Below.{and-left, and-right}
 
 -- ---- a column
-left-by : (t : Bool) (sign n i : ℕ) → ltb n 10 ≡ t → before sign (n / 10) i ≡ column sign n (suc i)
+pub column-units : (s q k : ℕ) → k ≤ 0 → 48 + q % 10 ≡ column s q k
 unfolding column
-left-by true sign n i e =
-    let z : n / 10 ≡ 0 = omega (arith, ltb-true n 10 e) in
-    rw (e, z)
-left-by false sign n i e =
-    let z : n / 10 ≡ 0 → ⊥ = λ q. omega (arith, q, ltb-false n 10 e) in
-    rw (e, ne-eqb (n / 10) 0 z)
+column-units s q zero h = refl
+column-units s q (suc k) h = absurd (not-suc-le-zero h)
 
-pub last-of : (sign n byte : ℕ) → byte ≡ 48 + n % 10 → ColumnOf sign n 0 (record { byte = byte; rest = n / 10; mark = sign })
+pub column-sign : (s q k : ℕ) → q < 10 → k ≡ 1 → s ≡ column s q k
 unfolding column
-last-of sign n byte e = record { here = e; left = λ i. let z : i + 0 ≡ i = omega arith in rw z (left-by (ltb n 10) sign n i refl) }
+column-sign s q k h e = rw e (simp (lt-ltb q 10 h))
 
-blanks : (t : Bool) → _≡_ {A = ℕ} (pick t 32 32) 32
-blanks true = refl
-blanks false = refl
+pub column-blank : (s q k : ℕ) → q < 10 → 0 < k → (k ≡ 1 → ⊥) → 32 ≡ column s q k
+unfolding column
+column-blank s q zero h p e = absurd (not-suc-le-zero p)
+column-blank s q (suc zero) h p e = absurd (e refl)
+column-blank s q (suc (suc k)) h p e = simp (lt-ltb q 10 h, eqb·suc-zero)
 
-pub before-none : (c : Column) → c .rest ≡ 0 → Before c (record { byte = c .mark; rest = 0; mark = 32 })
-before-none c e = record { here = rw e; left = λ i. rw (e, eqb·suc-zero) (blanks (eqb i 0)) }
-
-pub before-some : (c r : Column) → (c .rest ≡ 0 → ⊥) → ColumnOf (c .mark) (c .rest) 0 r → Before c r
-before-some c r ne o = record { here = rw (ne-eqb (c .rest) 0 ne) (o .here); left = λ i. let z : i + 0 ≡ i = omega arith in rw (ne-eqb (c .rest) 0 ne) (rw z at (o .left i)) }
-
-pub column-left : (sign n j : ℕ) (c r : Column) → ColumnOf sign n j c → Before c r → ColumnOf sign n (j + 1) r
-column-left sign n j c r o b =
-    let p : suc (0 + j) ≡ j + 1 = omega arith in
-    record {
-      here = rw (← p) (b .here ∙ o .left 0);
-      left = λ i. let q : suc (suc i + j) ≡ suc (i + (j + 1)) = omega arith in rw (← q) (b .left i ∙ o .left (suc i));
-    }
-
-pub getD-spelled : (w sign n i : ℕ) → i < w → getD (spelled w sign n) i 0 ≡ column sign n (w - 1 - i)
-unfolding spelled
-getD-spelled zero sign n i h = absurd (not-suc-le-zero h)
-getD-spelled (suc w) sign n zero h = let e : suc w - 1 - 0 ≡ w = omega arith in rw e
-getD-spelled (suc w) sign n (suc i) h = let e : suc w - 1 - suc i ≡ w - 1 - i = omega arith in rw e (getD-spelled w sign n i (omega arith))
-
-pub length-spelled : (w sign n : ℕ) → length (spelled w sign n) ≡ w
-unfolding spelled
-length-spelled zero sign n = refl
-length-spelled (suc w) sign n = rw (length-spelled w sign n)
+pub column-tenth : (s q k : ℕ) → 10 ≤ q → 0 < k → column s (q / 10) (k - 1) ≡ column s q k
+unfolding column
+column-tenth s q zero h p = absurd (not-suc-le-zero p)
+column-tenth s q (suc k) h p = let e : suc k - 1 ≡ k = omega arith in simp (le-ltb q 10 h, e)
 
 -- ---- the bytes of a part of a list, one after the other
 pub part-cons : (l : List ℕ) (j k : ℕ) → j < length l → take (k + 1) (drop j l) ≡ getD l j 0 ∷ take k (drop (j + 1) l)
@@ -92,10 +67,25 @@ pub eight : (v i : ℕ) → v < 10 ^ i → i ≤ 8 → v < 100_000_000
 eight v i h l = omega (arith, pow-le-pow-right {n = 10} (omega arith) {i = i} {j = 8} l)
 
 -- ---- a comparison with a spelling
-same-refl : (xs : List ℕ) → same xs xs ≡ true
-unfolding same
-same-refl [] = refl
-same-refl (x ∷ xs) = rw (eq-eqb x x refl, same-refl xs)
+pub same-none : (l : List ℕ) (k s n : ℕ) → k ≤ 0 → true ≡ same (take k l) (spelled k s n)
+unfolding same spelled
+same-none l zero s n h = refl
+same-none l (suc k) s n h = absurd (not-suc-le-zero h)
+
+pub same-more : (l : List ℕ) (j k s n : ℕ) → j < length l → same (take (k + 1) (drop j l)) (spelled (k + 1) s n) ≡ (eqb (getD l j 0) (column s n k) && same (take k (drop (j + 1) l)) (spelled k s n))
+unfolding same spelled
+same-more l j k s n h = rw (part-cons l j k h, add-one k)
+
+-- a turn of the loop that compares them: the column before the ones left differs, or it does not
+pub same-differs : (l : List ℕ) (j k s n : ℕ) (x : Bool) → j < length l → 0 < k → (getD l j 0 ≡ column s n (k - 1) → ⊥) → same (take k (drop j l)) (spelled k s n) ≡ x → false ≡ x
+same-differs l j k s n x h p ne e =
+    let q : k ≡ (k - 1) + 1 = omega arith in
+    sym (sym (rw q at e) ∙ rw (same-more l j (k - 1) s n h, ne-eqb _ _ ne))
+
+pub same-step : (l : List ℕ) (j k s n : ℕ) (x : Bool) → j < length l → 0 < k → getD l j 0 ≡ column s n (k - 1) → same (take k (drop j l)) (spelled k s n) ≡ x → same (take (k - 1) (drop (j + 1) l)) (spelled (k - 1) s n) ≡ x
+same-step l j k s n x h p eq e =
+    let q : k ≡ (k - 1) + 1 = omega arith in
+    rw (same-more l j (k - 1) s n h, eq-eqb _ _ eq) at (rw q at e)
 
 pub same-eq : (xs ys : List ℕ) → same xs ys ≡ true → xs ≡ ys
 unfolding same
@@ -106,36 +96,6 @@ same-eq (x ∷ xs) (y ∷ ys) e =
     let p = eqb-true x y (and-left (eqb x y) (same xs ys) e) in
     let q = same-eq xs ys (and-right (eqb x y) (same xs ys) e) in
     cc
-
--- the columns from one on, to the right, are those of a spelling
-abbrev pub Alike : List ℕ → ℕ → ℕ → ℕ → ℕ → ℕ → Type 0
-Alike l at w sign n from = (i : ℕ) → from ≤ i → i < w → getD l (at + i) 0 ≡ column sign n (w - 1 - i)
-
-part-at : (l : List ℕ) (at w i : ℕ) → i < w → getD (take w (drop at l)) i 0 ≡ getD l (at + i) 0
-part-at l at w i h = getD-take w (drop at l) i 0 h ∙ getD-drop at l i 0
-
-module _ (l : List ℕ) (at w sign n : ℕ) (fits : at + w ≤ length l) where
-  part-length : length (take w (drop at l)) ≡ w
-  part-length = length-take-le w (drop at l) (omega (arith, length-drop at l))
-
-  pub alike-same : (from : ℕ) → from ≤ 0 → Alike l at w sign n from → true ≡ same (take w (drop at l)) (spelled w sign n)
-  alike-same from z h =
-      let e : take w (drop at l) ≡ spelled w sign n =
-      ext-getD 0 (take w (drop at l)) (spelled w sign n) (part-length ∙ sym (length-spelled w sign n)) (λ i m.
-      let k : i < w = omega (arith, part-length) in
-      part-at l at w i k ∙ h i (omega arith) k ∙ sym (getD-spelled w sign n i k)) in
-      sym (rw e (same-refl (spelled w sign n)))
-
-  differs-by : (t : Bool) (i : ℕ) → same (take w (drop at l)) (spelled w sign n) ≡ t → i < w → (getD l (at + i) 0 ≡ column sign n (w - 1 - i) → ⊥) → false ≡ same (take w (drop at l)) (spelled w sign n)
-  differs-by true i e k ne =
-      absurd (ne (sym (part-at l at w i k) ∙ ap (λ (xs : List ℕ). getD xs i 0) (same-eq _ _ e) ∙ getD-spelled w sign n i k))
-  differs-by false i e k ne = sym e
-
-  pub differs : (i : ℕ) → i < w → (getD l (at + i) 0 ≡ column sign n (w - 1 - i) → ⊥) → false ≡ same (take w (drop at l)) (spelled w sign n)
-  differs i = differs-by (same (take w (drop at l)) (spelled w sign n)) i refl
-
-pub alike-more : (l : List ℕ) (at w sign n from : ℕ) → Alike l at w sign n from → getD l (at + (from - 1)) 0 ≡ column sign n (w - 1 - (from - 1)) → Alike l at w sign n (from - 1)
-alike-more l at w sign n from h e i g k = ⊎-elim (λ (q : from - 1 ≡ i). rw (← q) e) (λ (m : from - 1 < i). h i (omega arith) k) (eq-or-lt-of-le g)
 
 -- a number with a minus and a blank before it has fewer digits than the columns after the blank
 no-blank : (t : Bool) (x : ℕ) → pick t 45 (48 + x) ≡ 32 → ⊥

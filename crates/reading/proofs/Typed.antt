@@ -23,7 +23,6 @@ use Rattle.reading.specs.declared.records.Tag.{Tag}
 use Rattle.reading.specs.declared.records.Tag.the-variants.{B, S, M}
 use Rattle.reading.proofs.Below.{and-left, and-right, every-at, every-more}
 use Rattle.reading.proofs.Accepted.{Clean}
-use Rattle.reading.proofs.Columns.{length-spelled}
 use Rattle.reading.proofs.Firsts.{first-zero}
 use Rattle.reading.proofs.Held.{header-held, storey-held, member-held}
 use Rattle.reading.proofs.Spelt.{read-field}
@@ -71,6 +70,11 @@ spellable tag vs e j h =
     (every-at (inRange tag vs) (fields tag) j e h)
 
 -- ---- lengths
+pub length-spelled : (w sign n : ℕ) → length (spelled w sign n) ≡ w
+unfolding spelled
+length-spelled zero sign n = refl
+length-spelled (suc w) sign n = ap suc (length-spelled w sign n)
+
 length-either : (t : Bool) (m n : ℕ) → length (pick t (spelled 8 32 m) (spelled 8 45 n)) ≡ 8
 length-either true m n = length-spelled 8 32 m
 length-either false m n = length-spelled 8 45 n

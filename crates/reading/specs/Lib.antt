@@ -3,7 +3,6 @@ pub mod First
 pub mod Lines
 pub mod Records
 pub mod Spelling
-pub mod Column
 pub mod Valid
 pub mod Survey
 pub mod Checks

@@ -1,10 +1,10 @@
 // What makes a record good: every field in its range, and what holds between fields.
 ghost use mathlib.Core.Path.{_≡_};
-ghost use Prim.Native.Nat.{_<_};
 ghost use mathlib.Core.Bool.{_&&_, _||_};
 ghost use lib.Dec.{leb, eqb};
 ghost use lib.ListN.{getD};
 ghost use Rattle.reading.specs.First.{every};
+ghost use Rattle.reading.specs.declared.records.Tag.the-variants.{M};
 ghost use Rattle.reading.specs.Records.{never, allows, headerRanges, storeyRanges, memberRanges, ranges, fields, inRange, headerFault, storeyFault, memberFault};
 use crate::records::Header;
 use crate::records::Member;
@@ -249,6 +249,22 @@ pub fn storey_fault(s: Storey) -> u64
     0
 }
 
+// Every field of a member is in its range: the tables are laid out once.
+fn member_in_ranges(vs: [u64; 26]) -> bool
+    ensures { λ r. ⌜ r ≡ every (inRange M vs) 26 ⌝ }
+{
+    let least = MEMBER_LEAST;
+    let most = MEMBER_MOST;
+    let mut j = 0;
+    while j < 26 {
+        if !between(vs[j], least[j], most[j]) {
+            return false;
+        }
+        j += 1;
+    }
+    true
+}
+
 // The first refusal of a member by itself: 3 or 4, or 0.
 pub fn member_fault(m: Member) -> u64
     ensures { λ r. ⌜ r ≡ memberFault m ⌝ }
@@ -282,7 +298,7 @@ pub fn member_fault(m: Member) -> u64
         c.rotation,
         c.drift,
     ];
-    if !in_ranges(Tag::M, vs) {
+    if !member_in_ranges(vs) {
         return 3;
     }
     if m.long < m.short {

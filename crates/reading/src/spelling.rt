@@ -2,39 +2,25 @@
 ghost use mathlib.Core.Path.{_≡_};
 ghost use Prim.Native.Nat.{_+_, _<_, _≤_};
 ghost use lib.ListN.{length, take, drop};
-ghost use Rattle.reading.specs.Spelling.{spelled, same, pushed, value};
-ghost use Rattle.reading.specs.Column.{ColumnOf, Before};
+ghost use Rattle.reading.specs.Spelling.{column, spelled, same, pushed, value};
 
-// A column of a number, the columns being taken from the right: the byte there, what is left of the number before it, and what stands there where nothing is left.
-pub struct Column {
-    pub byte: u8,
-    pub rest: u64,
-    pub mark: u8,
-}
-
-// The last column of n, which has this sign before its first digit.
-pub fn last_column(sign: u8, n: u64) -> Column
-    ensures { λ r. ⌜ ColumnOf sign n 0 r ⌝ }
+// Column j of n, counted from the right, with the sign that stands before its first digit.
+pub fn column_of(sign: u8, n: u64, j: usize) -> u8
+    ensures { λ r. ⌜ r ≡ column sign n j ⌝ }
 {
-    Column {
-        byte: b'0' + (n % 10) as u8,
-        rest: n / 10,
-        mark: sign,
+    let mut q = n;
+    let mut k = j;
+    while 0 < k {
+        if q < 10 {
+            if k == 1 {
+                return sign;
+            }
+            return b' ';
+        }
+        q = q / 10;
+        k -= 1;
     }
-}
-
-// The column before another.
-pub fn column_before(c: Column) -> Column
-    ensures { λ r. ⌜ Before c r ⌝ }
-{
-    if c.rest == 0 {
-        return Column {
-            byte: c.mark,
-            rest: 0,
-            mark: b' ',
-        };
-    }
-    last_column(c.mark, c.rest)
+    b'0' + (q % 10) as u8
 }
 
 // The w bytes from `at` spell n.
@@ -42,14 +28,14 @@ pub(crate) fn spells(s: &[u8], at: usize, w: usize, sign: u8, n: u64) -> bool
     requires { ⌜ at + w ≤ length (now s) ⌝ }
     ensures { λ r. ⌜ r ≡ same (take w (drop at (now (s .entry)))) (spelled w sign n) ⌝ }
 {
-    let mut c = last_column(sign, n);
+    let mut p = at;
     let mut left = w;
     while 0 < left {
         left -= 1;
-        if s[at + left] != c.byte {
+        if s[p] != column_of(sign, n, left) {
             return false;
         }
-        c = column_before(c);
+        p += 1;
     }
     true
 }

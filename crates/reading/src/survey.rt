@@ -1,14 +1,13 @@
 // The check of a whole survey file: its first refusal, with the line.
 ghost use mathlib.Core.Path.{_≡_};
-ghost use Prim.Native.Nat.{ℕ, _+_, _*_, _<_, _≤_};
+ghost use Prim.Native.Nat.{ℕ, _+_, _≤_};
 ghost use lib.Dec.{eqb};
 ghost use lib.ListN.{length, getD};
 ghost use Rattle.reading.specs.First.{pick, any};
 ghost use Rattle.reading.specs.Checks.{HeaderLineOf, StoreyLineOf, MemberLineOf, MembersDue, CheckedOf};
-ghost use Rattle.reading.specs.Survey.{place, storey, membersFault, survey};
+ghost use Rattle.reading.specs.Survey.{place, membersFault, survey};
 ghost use Rattle.reading.specs.Lines.{storeyAt, memberAt};
 ghost use Rattle.reading.specs.Answer.{tells, told, storeysTold};
-use crate::lines::Fields;
 use crate::lines::earlier;
 use crate::lines::header_of;
 use crate::lines::is_shaped;

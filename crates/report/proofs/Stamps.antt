@@ -1,5 +1,5 @@
 -- Laws of bytes put in the place of others, and of the lines' lengths.
-use Prim.Native.Nat.{ℕ, suc, _+_, _*_, _-_, _≤_, _<_}
+use Prim.Native.Nat.{ℕ, zero, suc, _+_, _*_, _-_, _≤_, _<_}
 use native.Mathlib.Omega.{arith}
 use native.Mathlib.Numerals.{add-one}
 use mathlib.Core.Bool.{Bool, true, false}
@@ -7,9 +7,9 @@ use mathlib.Core.List.{List, [], _∷_, _++_, append-assoc}
 use mathlib.Core.Path.{_≡_, refl, ap, sym, _∙_}
 use lib.Dec.{leb}
 use lib.ListN.{length, drop, set, getD, length-set, length-append, drop-of-length-le}
-use lib.Seq.{drop-cons, set-append-seam, set-comm, append-snoc}
+use lib.Seq.{drop-cons, set-append-seam, append-snoc}
 use Rattle.reading.specs.Spelling.{column, spelled}
-use Rattle.reading.proofs.Columns.{getD-spelled, length-spelled}
+use Rattle.reading.proofs.Typed.{length-spelled}
 use borrow.Author.Tests.{le-leb, lt-leb}
 use Rattle.report.specs.Line.{fields, line, stamped, atFront, putLength}
 
@@ -81,29 +81,16 @@ text-next out before text at i v e h q =
 pub text-end : (out before text : List ℕ) (at i p : ℕ) → stamped out p (drop i text) ≡ stamped before at text → length text ≤ i → out ≡ stamped before at text
 text-end out before text at i p e h = sym (stamped-none out p) ∙ (rw (drop-of-length-le text h) at e)
 
--- a byte before the others
-set-before : (xs bytes : List ℕ) (p q v : ℕ) → p < q → set (stamped bytes q xs) p v ≡ stamped (set bytes p v) q xs
-unfolding stamped
-set-before [] bytes p q v h = refl
-set-before (x ∷ xs) bytes p q v h = set-before xs (set bytes q x) p (q + 1) v (omega arith) ∙ rw (set-comm bytes q p x v (λ e. let z : ⊥ = omega (arith, e) in z))
+-- the columns of a number, one by one
+pub field-next : (out before : List ℕ) (p left n v : ℕ) → stamped out p (spelled left 32 n) ≡ before → 0 < left → v ≡ column 32 n (left - 1) → stamped (set out p v) (p + 1) (spelled (left - 1) 32 n) ≡ before
+unfolding spelled
+field-next out before p zero n v e h q = let z : ⊥ = omega arith in absurd z
+field-next out before p (suc left) n v e h q = let l : suc left - 1 ≡ left = omega arith in rw (stamped-byte, q, l) e
 
--- the columns of a number, from its last on
-pub field-start : (bytes : List ℕ) (at n : ℕ) → bytes ≡ stamped bytes (at + 12) (drop 12 (spelled 12 32 n))
-field-start bytes at n =
-    let h : length (spelled 12 32 n) ≤ 12 = omega (arith, length-spelled 12 32 n) in
-    sym (ap (stamped bytes (at + 12)) (drop-of-length-le (spelled 12 32 n) h) ∙ stamped-none bytes (at + 12))
-
-pub field-next : (out bytes : List ℕ) (at left n v : ℕ) → out ≡ stamped bytes (at + left) (drop left (spelled 12 32 n)) → 0 < left → left ≤ 12 → v ≡ column 32 n (12 - left) → set out (at + (left - 1)) v ≡ stamped bytes (at + (left - 1)) (drop (left - 1) (spelled 12 32 n))
-field-next out bytes at left n v e h m q =
-    let l : left ≡ suc (left - 1) = omega arith in
-    let k : 12 - left ≡ 12 - 1 - (left - 1) = omega arith in
-    let c : drop (left - 1) (spelled 12 32 n) ≡ v ∷ drop left (spelled 12 32 n) =
-    drop-cons (spelled 12 32 n) (left - 1) 0 (omega (arith, length-spelled 12 32 n)) ∙ rw (q, k, ← l, getD-spelled 12 32 n (left - 1) (omega arith)) in
-    let p : at + left ≡ at + (left - 1) + 1 = omega arith in
-    rw (e, c, ← stamped-byte, ← p) (set-before (drop left (spelled 12 32 n)) bytes (at + (left - 1)) (at + left) v (omega arith))
-
-pub field-end : (out bytes : List ℕ) (at left n : ℕ) → out ≡ stamped bytes (at + left) (drop left (spelled 12 32 n)) → left ≤ 0 → out ≡ stamped bytes at (spelled 12 32 n)
-field-end out bytes at left n e h = let z : left ≡ 0 = omega arith in let y : at + 0 ≡ at = omega arith in rw y at (rw z at e)
+pub field-end : (out before : List ℕ) (p left n : ℕ) → stamped out p (spelled left 32 n) ≡ before → left ≤ 0 → out ≡ before
+unfolding spelled
+field-end out before p zero n e h = sym (stamped-none out p) ∙ e
+field-end out before p (suc left) n e h = let z : ⊥ = omega arith in absurd z
 
 pub length-fields : (ns : List ℕ) → length (fields ns) ≡ 12 * length ns
 unfolding fields

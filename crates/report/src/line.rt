@@ -4,8 +4,7 @@ ghost use Prim.Native.Nat.{_+_, _*_, _≤_};
 ghost use lib.ListN.{length};
 ghost use Rattle.reading.specs.Spelling.{spelled};
 ghost use Rattle.report.specs.Line.{line, stamped};
-use reading::spelling::column_before;
-use reading::spelling::last_column;
+use reading::spelling::column_of;
 
 // Bytes as they stand.
 fn put_text(out: &mut [u8], at: usize, text: &[u8]) -> usize
@@ -21,20 +20,20 @@ fn put_text(out: &mut [u8], at: usize, text: &[u8]) -> usize
     at + i
 }
 
-// A number in a field of 12 columns, from its last on.
+// A number in a field of 12 columns.
 fn put_field(out: &mut [u8], at: usize, n: u64) -> usize
     requires { ⌜ at + 12 ≤ length (now out) ⌝ }
     ensures { λ r. ⌜ r ≡ at + 12 ⌝ }
     ensures { λ _. ⌜ now (out .exit) ≡ stamped (now (out .entry)) at (spelled 12 32 n) ⌝ }
 {
-    let mut c = last_column(b' ', n);
+    let mut p = at;
     let mut left = 12;
     while 0 < left {
         left -= 1;
-        out[at + left] = c.byte;
-        c = column_before(c);
+        out[p] = column_of(b' ', n, left);
+        p += 1;
     }
-    at + 12
+    p
 }
 
 // A line: its tag, its fields, LF.

@@ -2,7 +2,7 @@
 ghost use mathlib.Core.Path.{_≡_};
 ghost use Prim.Native.Nat.{_+_, _≤_};
 ghost use lib.ListN.{length};
-ghost use Rattle.members.specs.Finding.{finding, flag};
+ghost use Rattle.members.specs.Finding.{finding};
 ghost use Rattle.report.specs.Line.{stamped};
 ghost use Rattle.report.specs.Sheet.{memberLine, storeyLine, lineOf, findingIn, faultBy, Few, Printed};
 use crate::ReportAnswer;

@@ -1,12 +1,10 @@
 // One record, by value: what the loops over rows do with each.
 ghost use mathlib.Core.Path.{_≡_};
-ghost use mathlib.Core.Bool.{true};
 ghost use mathlib.Core.List.{[], _∷_};
-ghost use Prim.Native.Nat.{_+_, _-_, _*_, _<_, _≤_};
+ghost use Prim.Native.Nat.{_+_, _*_, _≤_};
 ghost use lib.Dec.{leb};
 ghost use Rattle.reading.specs.First.{inOrder};
 ghost use Rattle.reading.specs.Records.{storeyFault, memberFault};
-ghost use Rattle.members.specs.Finding.{knowledge};
 ghost use Rattle.storeys.specs.Storey.{publishedRules, wallShear, exceedsShare};
 ghost use Rattle.storeys.specs.Tally.{weightOf, noTally, added, addedBy, AddsUp, AddsNumbers, headFault, foundBy, judgedBy, riskyBy, Small};
 use crate::StoreyAnswer;

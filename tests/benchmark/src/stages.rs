@@ -1,5 +1,5 @@
 //! One stage of the way from a file to its sheet, by either program, on one survey.
-use crate::calls::{self, header_row, member_row, storey_row, MemberRow, StoreyRow};
+use crate::records::{header_row, member_row, storey_row};
 use crate::surveys::{growth, survey, GROWTH, SIZES};
 use generator::write_survey;
 use independent::Survey;
@@ -39,10 +39,10 @@ pub struct Bench {
     pub survey: Survey,
     pub bytes: Vec<u8>,
     header: [u64; 6],
-    storeys: Vec<StoreyRow>,
-    members: Vec<MemberRow>,
-    storey_rows: Vec<StoreyRow>,
-    member_rows: Vec<MemberRow>,
+    storeys: Vec<llunareth::Storey>,
+    members: Vec<llunareth::Member>,
+    storey_rows: Vec<llunareth::Storey>,
+    member_rows: Vec<llunareth::Member>,
     sheet: Vec<u8>,
     out: [u64; 10],
     length: usize,
@@ -57,8 +57,8 @@ impl Bench {
             header: header_row(&survey.header),
             storeys: survey.storeys.iter().map(storey_row).collect(),
             members: survey.members.iter().map(member_row).collect(),
-            storey_rows: vec![[1; 3]; STOREY_ROWS],
-            member_rows: vec![[1; 26]; MEMBER_ROWS],
+            storey_rows: vec![[1; 3].into(); STOREY_ROWS],
+            member_rows: vec![[1; 26].into(); MEMBER_ROWS],
             sheet: vec![1; 86 * survey.members.len() + 74 * survey.storeys.len() + 26],
             out: [1; 10],
             length: 0,
@@ -77,10 +77,10 @@ impl Bench {
     fn run_proved(&mut self, stage: Stage) {
         let (header, storeys, members) = (black_box(&self.header), black_box(&self.storeys), black_box(&self.members));
         match stage {
-            Stage::Read => calls::read(black_box(&self.bytes), &mut self.storey_rows, &mut self.member_rows, &mut self.out),
-            Stage::Judge => calls::judge_building(header, storeys, members, &mut self.out),
-            Stage::Report => calls::report(header, storeys, members, &mut self.sheet, &mut self.out),
-            Stage::Whole => self.length = calls::determine(black_box(&self.bytes), &mut self.sheet),
+            Stage::Read => llunareth::raw::read(black_box(&self.bytes), &mut self.storey_rows, &mut self.member_rows, &mut self.out),
+            Stage::Judge => llunareth::raw::judge_building(header, storeys, members, &mut self.out),
+            Stage::Report => llunareth::raw::report(header, storeys, members, &mut self.sheet, &mut self.out),
+            Stage::Whole => self.length = llunareth::raw::determine(black_box(&self.bytes), &mut self.sheet),
         }
     }
 
@@ -109,8 +109,8 @@ impl Bench {
 
     /// Takes away what an earlier call put into the lent memory.
     fn clear(&mut self) {
-        self.storey_rows.fill([1; 3]);
-        self.member_rows.fill([1; 26]);
+        self.storey_rows.fill([1; 3].into());
+        self.member_rows.fill([1; 26].into());
         self.sheet.fill(1);
         self.out = [1; 10];
         self.length = 0;

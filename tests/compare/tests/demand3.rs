@@ -141,7 +141,7 @@ fn cleared(one: &Survey, other: &Survey) {
 }
 
 #[test]
-fn each_condition_is_needed() {
+fn seven_conditions_cannot_be_left_out() {
     // equal knowledge level
     cleared(&single(90, 1_000, |m| m.m_e = 95), &single(100, 1_000, |m| m.m_e = 95));
     // equal storey shears

@@ -1,65 +1,51 @@
-use Prim.Native.Nat.{_+_, _-_, _≤_}
+use Prim.Native.Nat.{_+_, _-_}
+use mathlib.Core.Path.{_≡_, refl, sym, _∙_}
 use native.Mathlib.Omega.{arith}
-use mathlib.Core.Path.{_≡_, sym, _∙_}
 use borrow.Author.Needs.{needs}
-use Rattle.reading.specs.Column.{ColumnOf}
-use Rattle.reading.proofs.Columns.{Alike, column-left, alike-same, alike-more, differs}
+use lib.ListN.{take, drop}
+use Rattle.reading.specs.Spelling.{same, spelled}
+use Rattle.reading.proofs.Columns.{same-none, same-differs, same-step}
 use Rattle.reading.proofs.spelling.spells.Statement.{statement}
 use Rattle.reading.proofs.spelling.spells.Tie as tie
 
 abbrev Inv-loop : tie.InvT-loop
-Inv-loop s at w sign n c₀ left₀ c left = (left ≤ w) × ColumnOf sign n (w - left) c × Alike s at w sign n left
+Inv-loop s at w sign n p₀ left₀ p left = (p + left ≡ at + w) × (same (take left (drop p s)) (spelled left sign n) ≡ same (take w (drop at s)) (spelled w sign n))
 
 abbrev μ-loop : tie.MeasureT-loop
-μ-loop s at w sign n c₀ left₀ c left = left
-
-last-column-requires : tie.Need-last-column-requires Inv-loop μ-loop
-last-column-requires c κs = tt
+μ-loop s at w sign n p₀ left₀ p left = left
 
 loop-holds : tie.Need-loop-holds Inv-loop μ-loop
-loop-holds c =
-    let a = c .before .before .args in
-    let z : a .w - a .w ≡ 0 = omega arith in
-    (omega arith, rw z (c .last-column .ensures), λ i g k. let f : ⊥ = omega arith in absurd f)
+loop-holds c = (refl, refl)
 
 sub-left : tie.Need-sub-left Inv-loop μ-loop
 sub-left c = search needs
 
-add-if1 : tie.Need-add-if1 Inv-loop μ-loop
-add-if1 c = search needs
-
 shared-slice-read-if1 : tie.Need-shared-slice-read-if1 Inv-loop μ-loop
 shared-slice-read-if1 c = search needs
 
+column-of-requires : tie.Need-column-of-requires Inv-loop μ-loop
+column-of-requires c κs = search needs
+
 returns : tie.Need-returns Inv-loop μ-loop
 returns c =
-    let a = c .before .before .before .before .before .before .before .args in
     let l = c .before .before .before .before .loop in
-    let e : a .w - l .left ≡ a .w - 1 - (l .left - 1) = omega arith in
-    differs (a .s .now) (a .at) (a .w) (a .sign) (a .n) (c .before .before .before .before .before .before .before .pre) (l .left - 1) (omega arith) (λ q. c .if1 .taken (q ∙ sym (rw e at (l .inv .1 .here))))
+    let a = c .before .before .before .before .before .before .args in
+    same-differs (a .s .now) (l .p) (l .left) (a .sign) (a .n) _ (omega arith) (omega arith) (λ e. c .if1 .taken (e ∙ sym (c .before .column-of .ensures))) (l .inv .1)
 
-column-before-requires : tie.Need-column-before-requires Inv-loop μ-loop
-column-before-requires c κs = tt
+add-p : tie.Need-add-p Inv-loop μ-loop
+add-p c = search needs
 
 loop-less : tie.Need-loop-less Inv-loop μ-loop
 loop-less c = search needs
 
 loop-again : tie.Need-loop-again Inv-loop μ-loop
 loop-again c =
-    let a = c .before .before .before .before .before .before .before .before .args in
-    let l = c .before .before .before .before .before .loop in
-    let e : a .w - l .left ≡ a .w - 1 - (l .left - 1) = omega arith in
-    let f : a .w - (l .left - 1) ≡ a .w - l .left + 1 = omega arith in (
-      omega arith,
-      rw f (column-left (a .sign) (a .n) (a .w - l .left) (l .c) (c .column-before .result) (l .inv .1) (c .column-before .ensures)),
-      alike-more (a .s .now) (a .at) (a .w) (a .sign) (a .n) (l .left) (l .inv .2) (c .before .if1 .left ∙ (rw e at (l .inv .1 .here))),
-    )
+    let l = c .before .before .before .before .loop in
+    let a = c .before .before .before .before .before .before .args in
+    (omega arith, same-step (a .s .now) (l .p) (l .left) (a .sign) (a .n) _ (omega arith) (omega arith) (c .if1 .left ∙ c .before .column-of .ensures) (l .inv .1))
 
 returns-2 : tie.Need-returns-2 Inv-loop μ-loop
-returns-2 c =
-    let a = c .before .before .before .before .args in
-    let l = c .before .loop in
-    alike-same (a .s .now) (a .at) (a .w) (a .sign) (a .n) (c .before .before .before .before .pre) (l .left) (omega arith) (l .inv .2)
+returns-2 c = same-none _ _ _ _ (c .loop-test .left) ∙ c .before .loop .inv .1
 
 pub spells-spec : {M : Type 1} → statement M
 spells-spec =
@@ -67,13 +53,12 @@ spells-spec =
     (tie.spec
     Inv-loop
     μ-loop
-    last-column-requires
     loop-holds
     sub-left
-    add-if1
     shared-slice-read-if1
+    column-of-requires
     returns
-    column-before-requires
+    add-p
     loop-less
     loop-again
     returns-2)
