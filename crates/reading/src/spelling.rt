@@ -5,7 +5,7 @@ ghost use lib.ListN.{length, take, drop};
 ghost use Rattle.reading.specs.Spelling.{column, spelled, same, pushed, value};
 
 // Column j of n, counted from the right, with the sign that stands before its first digit.
-pub fn column_of(sign: u8, n: u64, j: usize) -> u8
+pub(crate) fn column_of(sign: u8, n: u64, j: usize) -> u8
     ensures { λ r. ⌜ r ≡ column sign n j ⌝ }
 {
     let mut q = n;

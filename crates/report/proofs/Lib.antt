@@ -7,3 +7,4 @@ pub mod Says
 pub mod Called
 pub mod Example
 pub mod Reordered
+pub mod Digits

@@ -1,5 +1,5 @@
 -- Laws of bytes put in the place of others, and of the lines' lengths.
-use Prim.Native.Nat.{ℕ, zero, suc, _+_, _*_, _-_, _≤_, _<_}
+use Prim.Native.Nat.{ℕ, _+_, _*_, _-_, _≤_, _<_}
 use native.Mathlib.Omega.{arith}
 use native.Mathlib.Numerals.{add-one}
 use mathlib.Core.Bool.{Bool, true, false}
@@ -8,7 +8,7 @@ use mathlib.Core.Path.{_≡_, refl, ap, sym, _∙_}
 use lib.Dec.{leb}
 use lib.ListN.{length, drop, set, getD, length-set, length-append, drop-of-length-le}
 use lib.Seq.{drop-cons, set-append-seam, append-snoc}
-use Rattle.reading.specs.Spelling.{column, spelled}
+use Rattle.reading.specs.Spelling.{spelled}
 use Rattle.reading.proofs.Typed.{length-spelled}
 use borrow.Author.Tests.{le-leb, lt-leb}
 use Rattle.report.specs.Line.{fields, line, stamped, atFront, putLength}
@@ -80,17 +80,6 @@ text-next out before text at i v e h q =
 
 pub text-end : (out before text : List ℕ) (at i p : ℕ) → stamped out p (drop i text) ≡ stamped before at text → length text ≤ i → out ≡ stamped before at text
 text-end out before text at i p e h = sym (stamped-none out p) ∙ (rw (drop-of-length-le text h) at e)
-
--- the columns of a number, one by one
-pub field-next : (out before : List ℕ) (p left n v : ℕ) → stamped out p (spelled left 32 n) ≡ before → 0 < left → v ≡ column 32 n (left - 1) → stamped (set out p v) (p + 1) (spelled (left - 1) 32 n) ≡ before
-unfolding spelled
-field-next out before p zero n v e h q = let z : ⊥ = omega arith in absurd z
-field-next out before p (suc left) n v e h q = let l : suc left - 1 ≡ left = omega arith in rw (stamped-byte, q, l) e
-
-pub field-end : (out before : List ℕ) (p left n : ℕ) → stamped out p (spelled left 32 n) ≡ before → left ≤ 0 → out ≡ before
-unfolding spelled
-field-end out before p zero n e h = sym (stamped-none out p) ∙ e
-field-end out before p (suc left) n e h = let z : ⊥ = omega arith in absurd z
 
 pub length-fields : (ns : List ℕ) → length (fields ns) ≡ 12 * length ns
 unfolding fields

@@ -1,7 +1,7 @@
 -- A line of the printed sheet (document 01, "The printed sheet": "Tag, then fields of 12 columns written likewise"), and bytes put in the place of others.
-use Prim.Native.Nat.{ℕ, _+_}
+use Prim.Native.Nat.{ℕ, zero, suc, _+_, _/_, _%_}
 use mathlib.Core.List.{List, [], _∷_, _++_}
-use lib.Dec.{leb}
+use lib.Dec.{leb, ltb}
 use lib.ListN.{length, drop, set}
 use Rattle.reading.specs.First.{pick}
 use Rattle.reading.specs.Spelling.{spelled}
@@ -27,3 +27,10 @@ atFront text bytes = pick (leb (length text) (length bytes)) (text ++ drop (leng
 -- how many bytes are put then
 abbrev pub putLength : List ℕ → ℕ → ℕ
 putLength text room = pick (leb (length text) room) (length text) 0
+
+-- the digits of n over the bytes before at + w, the last first, at most w of them
+unfoldable pub digitsOver : List ℕ → ℕ → ℕ → ℕ → List ℕ
+digitsOver bytes at zero n = bytes
+digitsOver bytes at (suc w) n =
+    let written = set bytes (at + w) (48 + n % 10) in
+    pick (ltb n 10) written (digitsOver written at w (n / 10))

@@ -3,8 +3,7 @@ ghost use mathlib.Core.Path.{_≡_};
 ghost use Prim.Native.Nat.{_+_, _*_, _≤_};
 ghost use lib.ListN.{length};
 ghost use Rattle.reading.specs.Spelling.{spelled};
-ghost use Rattle.report.specs.Line.{line, stamped};
-use reading::spelling::column_of;
+ghost use Rattle.report.specs.Line.{line, stamped, digitsOver};
 
 // Bytes as they stand.
 fn put_text(out: &mut [u8], at: usize, text: &[u8]) -> usize
@@ -20,19 +19,31 @@ fn put_text(out: &mut [u8], at: usize, text: &[u8]) -> usize
     at + i
 }
 
-// A number in a field of 12 columns.
+// The digits of a number over the last of 12 columns.
+fn put_digits(out: &mut [u8], at: usize, n: u64)
+    requires { ⌜ at + 12 ≤ length (now out) ⌝ }
+    ensures { λ _. ⌜ now (out .exit) ≡ digitsOver (now (out .entry)) at 12 n ⌝ }
+{
+    let mut q = n;
+    let mut left = 12;
+    while 0 < left {
+        left -= 1;
+        out[at + left] = b'0' + (q % 10) as u8;
+        if q < 10 {
+            return;
+        }
+        q = q / 10;
+    }
+}
+
+// A number in a field of 12 columns: blanks, then its digits over the last of them.
 fn put_field(out: &mut [u8], at: usize, n: u64) -> usize
     requires { ⌜ at + 12 ≤ length (now out) ⌝ }
     ensures { λ r. ⌜ r ≡ at + 12 ⌝ }
     ensures { λ _. ⌜ now (out .exit) ≡ stamped (now (out .entry)) at (spelled 12 32 n) ⌝ }
 {
-    let mut p = at;
-    let mut left = 12;
-    while 0 < left {
-        left -= 1;
-        out[p] = column_of(b' ', n, left);
-        p += 1;
-    }
+    let p = put_text(out, at, b"            ");
+    put_digits(out, at, n);
     p
 }
 
