@@ -6,7 +6,7 @@ use mathlib.Core.List.{List, _++_}
 use mathlib.Core.Path.{_≡_, sym, _∙_}
 use lib.ListN.{length, take, drop, set, getD}
 use borrow.Author.Tests.{le-leb, lt-leb}
-use Rattle.exports.specs.Words.{put}
+use Rattle.report.specs.Line.{atFront}
 use lib.Seq.{take-suc, drop-cons, set-at, length-take-le, take-all, append-snoc}
 
 pub front-step : (w d now : List ℕ) (i : ℕ) → i < length w → i < length d → now ≡ take i w ++ drop i d → set now i (getD w i 0) ≡ take (i + 1) w ++ drop (i + 1) d
@@ -15,10 +15,10 @@ front-step w d now i h g e =
     (sym (append-snoc (take i w) (getD w i 0) (drop (suc i) d)))
 
 -- ten words, written or not
-pub put-none : (w d : List ℕ) → length w ≡ 10 → length d < 10 → d ≡ put w d
+pub put-none : (w d : List ℕ) → length w ≡ 10 → length d < 10 → d ≡ atFront w d
 put-none w d e h = rw (e, lt-leb 10 (length d) h)
 
-pub put-all : (d w now : List ℕ) (i : ℕ) → length w ≡ 10 → 10 ≤ length d → 10 ≤ i → i ≤ 10 → now ≡ take i w ++ drop i d → now ≡ put w d
+pub put-all : (d w now : List ℕ) (i : ℕ) → length w ≡ 10 → 10 ≤ length d → 10 ≤ i → i ≤ 10 → now ≡ take i w ++ drop i d → now ≡ atFront w d
 put-all d w now i l h g k q =
     let z : i ≡ 10 = omega arith in
     q ∙ rw (z, l, le-leb 10 (length d) h, take-all 10 w (omega arith))

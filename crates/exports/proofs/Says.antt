@@ -17,7 +17,8 @@ use Rattle.reading.proofs.Structs.{member, storey}
 use Rattle.reading.specs.Lines.{headerBy, storeyBy}
 use Rattle.storeys.specs.Storey.{storeyReturned}
 use Rattle.report.specs.Sheet.{reportReturned, bufferAfter}
-use Rattle.exports.specs.Words.{words as wordsOf, handed, put, ten, BuildingWritten}
+use Rattle.exports.specs.Words.{words as wordsOf, handed, ten, BuildingWritten}
+use Rattle.report.specs.Line.{atFront}
 
 abbrev pub bytes : RattleType
 bytes = rtF (fInt w8)
@@ -29,7 +30,7 @@ abbrev pub llunareth-read : Plain {n = 4} (pShrS bytes 0 tt ∷ pMutS (R storey)
 llunareth-read = record {
   requires = λ κs a. [];
   ensures = λ κs a z e.
-      (e .1 .1 .1 .0 .now ≡ put (wordsOf (told (survey (a .0 .now) (length (a .1 .0 .now)) (length (a .1 .1 .0 .now))))) (a .1 .1 .1 .0 .now))
+      (e .1 .1 .1 .0 .now ≡ atFront (wordsOf (told (survey (a .0 .now) (length (a .1 .0 .now)) (length (a .1 .1 .0 .now))))) (a .1 .1 .1 .0 .now))
       ∷ (e .1 .0 .now ≡ storeysAfter (survey (a .0 .now) (length (a .1 .0 .now)) (length (a .1 .1 .0 .now))) (a .1 .0 .now))
       ∷ (e .1 .1 .0 .now ≡ membersAfter (survey (a .0 .now) (length (a .1 .0 .now)) (length (a .1 .1 .0 .now))) (a .1 .1 .0 .now))
       ∷ [];
@@ -39,7 +40,7 @@ abbrev pub llunareth-judge-storey : Plain {n = 3} (pNum w64 ∷ pShrS words 0 tt
 llunareth-judge-storey = record {
   requires = λ κs a. [];
   ensures = λ κs a z e.
-      (e .1 .1 .1 .0 .now ≡ put (ten (storeyReturned (a .0) (storeyBy (handed (a .1 .0 .now))) (a .1 .1 .0 .now))) (a .1 .1 .1 .0 .now)) ∷ [];
+      (e .1 .1 .1 .0 .now ≡ atFront (ten (storeyReturned (a .0) (storeyBy (handed (a .1 .0 .now))) (a .1 .1 .0 .now))) (a .1 .1 .1 .0 .now)) ∷ [];
 }
 
 abbrev pub llunareth-judge-building : Plain {n = 4} (pShrS words 0 tt ∷ pShrS (R storey) 1 tt ∷ pShrS (R member) 2 tt ∷ pMutS words 3 tt ∷ []) rUnit
@@ -53,7 +54,7 @@ abbrev pub llunareth-report : Plain {n = 5} (pShrS words 0 tt ∷ pShrS (R store
 llunareth-report = record {
   requires = λ κs a. [];
   ensures = λ κs a z e.
-      (e .1 .1 .1 .1 .0 .now ≡ put (ten (reportReturned (headerBy (handed (a .0 .now))) (a .1 .0 .now) (a .1 .1 .0 .now) (length (a .1 .1 .1 .0 .now)))) (a .1 .1 .1 .1 .0 .now))
+      (e .1 .1 .1 .1 .0 .now ≡ atFront (ten (reportReturned (headerBy (handed (a .0 .now))) (a .1 .0 .now) (a .1 .1 .0 .now) (length (a .1 .1 .1 .0 .now)))) (a .1 .1 .1 .1 .0 .now))
       ∷ (e .1 .1 .1 .0 .now ≡ bufferAfter (headerBy (handed (a .0 .now))) (a .1 .0 .now) (a .1 .1 .0 .now) (a .1 .1 .1 .0 .now))
       ∷ [];
 }

@@ -2,9 +2,7 @@
 use Prim.Native.Nat.{ℕ}
 use mathlib.Core.List.{List, [], _∷_, _++_}
 use mathlib.Core.Path.{_≡_}
-use lib.Dec.{leb}
-use lib.ListN.{length, take, drop, getD}
-use Rattle.reading.specs.First.{pick}
+use lib.ListN.{take, getD}
 use Rattle.members.specs.Finding.{Returned}
 use Rattle.reading.specs.Answer.{Told, filled, refusal}
 use Rattle.reading.specs.declared.records.Header.{Header}
@@ -12,6 +10,7 @@ use Rattle.reading.specs.declared.records.Storey.{Storey}
 use Rattle.reading.specs.declared.records.Member.{Member}
 use Rattle.storeys.specs.declared.BuildingAnswer.{BuildingAnswer}
 use Rattle.storeys.specs.Storey.{publishedRules}
+use Rattle.report.specs.Line.{atFront}
 use Rattle.storeys.specs.Building.{Answers, returnedBuilding}
 
 -- refusal and line, 0 and 0 where accepted; the header's six fields; the numbers of storey and member rows filled
@@ -30,10 +29,6 @@ words (filled h storeys members) =
     ∷ []
 words (refusal number line) = number ∷ line ∷ 0 ∷ 0 ∷ 0 ∷ 0 ∷ 0 ∷ 0 ∷ 0 ∷ 0 ∷ []
 
--- a buffer with some words in front; as it was where they do not fit
-abbrev pub put : List ℕ → List ℕ → List ℕ
-put ws buffer = pick (leb (length ws) (length buffer)) (ws ++ drop (length ws) buffer) buffer
-
 -- an answer on records as ten numbers: refusal and line, the values, and zeros
 abbrev pub ten : Returned → List ℕ
 ten r = r .refusal ∷ r .line ∷ take 8 (r .values ++ (0 ∷ 0 ∷ 0 ∷ 0 ∷ 0 ∷ 0 ∷ 0 ∷ 0 ∷ []))
@@ -50,4 +45,4 @@ handed values j = getD values j missing
 pub record BuildingWritten (h : Header) (ss : List Storey) (ms : List Member) (before after : List ℕ) : Type 0 where
   pub answer : BuildingAnswer
   pub given : Answers publishedRules h ss ms answer
-  pub written : after ≡ put (ten (returnedBuilding answer)) before
+  pub written : after ≡ atFront (ten (returnedBuilding answer)) before

@@ -5,7 +5,8 @@ ghost use Rattle.reading.specs.Lines.{headerBy, memberBy, storeyBy};
 ghost use Rattle.storeys.specs.Storey.{returnedStorey, storeyReturned};
 ghost use Rattle.members.specs.Finding.{returned, memberReturned};
 ghost use Rattle.storeys.specs.Building.{returnedBuilding};
-ghost use Rattle.exports.specs.Words.{handed, put, ten, BuildingWritten};
+ghost use Rattle.exports.specs.Words.{handed, ten, BuildingWritten};
+ghost use Rattle.report.specs.Line.{atFront};
 use crate::words::put_ten;
 use crate::words::values_of;
 use members::finding::MemberAnswer;
@@ -51,7 +52,7 @@ fn member_words(a: MemberAnswer) -> [u64; 10]
 // A member, given by its 26 numbers, judged with k and whether its storey meets the 0.40 condition.
 #[no_mangle]
 pub extern "C" fn llunareth_judge_member(k: u64, met: bool, values: &[u64], out: &mut [u64])
-    ensures { λ _. ⌜ now (out .exit) ≡ put (ten (memberReturned k met (memberBy (handed (now (values .entry)))))) (now (out .entry)) ⌝ }
+    ensures { λ _. ⌜ now (out .exit) ≡ atFront (ten (memberReturned k met (memberBy (handed (now (values .entry)))))) (now (out .entry)) ⌝ }
 {
     let vs = values_of(values);
     let a = judge_member(k, met, member_of(vs));
@@ -88,7 +89,7 @@ fn storey_words(r: StoreyJudgment) -> [u64; 10]
 }
 
 fn put_storey(out: &mut [u64], r: StoreyJudgment)
-    ensures { λ _. ⌜ now (out .exit) ≡ put (ten (returnedStorey (r .answer))) (now (out .entry)) ⌝ }
+    ensures { λ _. ⌜ now (out .exit) ≡ atFront (ten (returnedStorey (r .answer))) (now (out .entry)) ⌝ }
 {
     put_ten(out, storey_words(r));
 }
@@ -101,7 +102,7 @@ pub extern "C" fn llunareth_judge_storey(
     members: &[Member],
     out: &mut [u64],
 )
-    ensures { λ _. ⌜ now (out .exit) ≡ put (ten (storeyReturned k (storeyBy (handed (now (storey .entry)))) (now (members .entry)))) (now (out .entry)) ⌝ }
+    ensures { λ _. ⌜ now (out .exit) ≡ atFront (ten (storeyReturned k (storeyBy (handed (now (storey .entry)))) (now (members .entry)))) (now (out .entry)) ⌝ }
 {
     let s = storey_given(storey);
     let r = judge_storey(k, s, members);
@@ -127,7 +128,7 @@ fn building_words(r: BuildingJudgment) -> [u64; 10]
 }
 
 fn put_building(out: &mut [u64], r: BuildingJudgment)
-    ensures { λ _. ⌜ now (out .exit) ≡ put (ten (returnedBuilding (r .answer))) (now (out .entry)) ⌝ }
+    ensures { λ _. ⌜ now (out .exit) ≡ atFront (ten (returnedBuilding (r .answer))) (now (out .entry)) ⌝ }
 {
     put_ten(out, building_words(r));
 }

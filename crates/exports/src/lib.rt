@@ -1,4 +1,4 @@
-// Calls for programs in other languages: numbers and slices in, ten numbers out for each answer.
+// Calls for programs in other languages, over numbers and slices; the answers of reading, judging and the report are ten numbers.
 pub mod judge_calls;
 pub mod reading_call;
 pub mod record_checks;

@@ -3,7 +3,8 @@ ghost use mathlib.Core.Path.{_≡_};
 ghost use lib.ListN.{length};
 ghost use Rattle.reading.specs.Survey.{survey};
 ghost use Rattle.reading.specs.Answer.{tells, told, storeysAfter, membersAfter};
-ghost use Rattle.exports.specs.Words.{words, put};
+ghost use Rattle.exports.specs.Words.{words};
+ghost use Rattle.report.specs.Line.{atFront};
 use crate::words::put_ten;
 use reading::records::Member;
 use reading::records::Storey;
@@ -48,7 +49,7 @@ fn words_of(r: Reading) -> [u64; 10]
 }
 
 fn put_words(out: &mut [u64], r: Reading)
-    ensures { λ _. ⌜ now (out .exit) ≡ put (words (tells (r .answer))) (now (out .entry)) ⌝ }
+    ensures { λ _. ⌜ now (out .exit) ≡ atFront (words (tells (r .answer))) (now (out .entry)) ⌝ }
 {
     let w = words_of(r);
     put_ten(out, w);
@@ -62,7 +63,7 @@ pub extern "C" fn llunareth_read(
     members: &mut [Member],
     out: &mut [u64],
 )
-    ensures { λ _. ⌜ now (out .exit) ≡ put (words (told (survey (now (s .entry)) (length (now (storeys .entry))) (length (now (members .entry)))))) (now (out .entry)) ⌝ }
+    ensures { λ _. ⌜ now (out .exit) ≡ atFront (words (told (survey (now (s .entry)) (length (now (storeys .entry))) (length (now (members .entry)))))) (now (out .entry)) ⌝ }
     ensures { λ _. ⌜ now (storeys .exit) ≡ storeysAfter (survey (now (s .entry)) (length (now (storeys .entry))) (length (now (members .entry)))) (now (storeys .entry)) ⌝ }
     ensures { λ _. ⌜ now (members .exit) ≡ membersAfter (survey (now (s .entry)) (length (now (storeys .entry))) (length (now (members .entry)))) (now (members .entry)) ⌝ }
 {

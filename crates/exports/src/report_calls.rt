@@ -5,7 +5,7 @@ ghost use Rattle.reading.specs.Lines.{headerBy};
 ghost use Rattle.report.specs.Line.{atFront, putLength};
 ghost use Rattle.report.specs.Sheet.{returnedReport, reportReturned, bufferAfter};
 ghost use Rattle.determination.specs.Determination.{printed};
-ghost use Rattle.exports.specs.Words.{handed, put, ten};
+ghost use Rattle.exports.specs.Words.{handed, ten};
 use crate::judge_calls::header_given;
 use crate::words::put_ten;
 use determination::determine;
@@ -27,7 +27,7 @@ fn report_words(r: ReportJudgment) -> [u64; 10]
 }
 
 fn put_report(out: &mut [u64], r: ReportJudgment)
-    ensures { λ _. ⌜ now (out .exit) ≡ put (ten (returnedReport (r .answer))) (now (out .entry)) ⌝ }
+    ensures { λ _. ⌜ now (out .exit) ≡ atFront (ten (returnedReport (r .answer))) (now (out .entry)) ⌝ }
 {
     put_ten(out, report_words(r));
 }
@@ -41,7 +41,7 @@ pub extern "C" fn llunareth_report(
     sheet: &mut [u8],
     out: &mut [u64],
 )
-    ensures { λ _. ⌜ now (out .exit) ≡ put (ten (reportReturned (headerBy (handed (now (header .entry)))) (now (storeys .entry)) (now (members .entry)) (length (now (sheet .entry))))) (now (out .entry)) ⌝ }
+    ensures { λ _. ⌜ now (out .exit) ≡ atFront (ten (reportReturned (headerBy (handed (now (header .entry)))) (now (storeys .entry)) (now (members .entry)) (length (now (sheet .entry))))) (now (out .entry)) ⌝ }
     ensures { λ _. ⌜ now (sheet .exit) ≡ bufferAfter (headerBy (handed (now (header .entry)))) (now (storeys .entry)) (now (members .entry)) (now (sheet .entry)) ⌝ }
 {
     let h = header_given(header);

@@ -2,11 +2,12 @@
 ghost use mathlib.Core.Path.{_≡_};
 ghost use Prim.Native.Nat.{ℕ, _<_};
 ghost use lib.ListN.{getD};
-ghost use Rattle.exports.specs.Words.{handed, put};
+ghost use Rattle.exports.specs.Words.{handed};
+ghost use Rattle.report.specs.Line.{atFront};
 
 // Writes ten numbers to the front of a buffer that holds them, and else nothing.
 pub(crate) fn put_ten(out: &mut [u64], w: [u64; 10])
-    ensures { λ _. ⌜ now (out .exit) ≡ put w (now (out .entry)) ⌝ }
+    ensures { λ _. ⌜ now (out .exit) ≡ atFront w (now (out .entry)) ⌝ }
 {
     if out.len() < 10 {
         return;

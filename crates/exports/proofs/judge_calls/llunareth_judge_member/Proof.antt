@@ -2,7 +2,8 @@ use borrow.Author.Needs.{needs}
 use mathlib.Core.Path.{ap, _∙_}
 use mathlib.Core.List.{List}
 use Prim.Native.Nat.{ℕ}
-use Rattle.exports.specs.Words.{handed, put, ten}
+use Rattle.exports.specs.Words.{handed, ten}
+use Rattle.report.specs.Line.{atFront}
 use lib.ListN.{getD}
 use Rattle.members.specs.Finding.{Returned, memberReturned}
 use Rattle.reading.proofs.Held.{member-same}
@@ -31,8 +32,8 @@ returns : tie.Need-returns
 returns c =
     let m = c .before .before .before .before .before .before .member-of .ensures ∙ member-same (λ (j : ℕ). getD (c .before .before .before .before .before .before .before .values-of .result) j 0) (handed (c .before .before .before .before .before .before .before .before .before .before .args .values .now)) (c .before .before .before .before .before .before .before .values-of .ensures) in
     c .before .before .put-ten .ensures
-    ∙ ap (λ (w : List ℕ). put w (c .before .before .before .before .before .before .before .before .before .before .args .out .now)) (c .before .before .before .member-words .ensures)
-    ∙ ap (λ (r : Returned). put (ten r) (c .before .before .before .before .before .before .before .before .before .before .args .out .now)) (c .before .before .before .before .before .judge-member .ensures .1 ∙ ap (memberReturned (c .before .before .before .before .before .before .before .before .before .before .args .k) (c .before .before .before .before .before .before .before .before .before .before .args .met)) m)
+    ∙ ap (λ (w : List ℕ). atFront w (c .before .before .before .before .before .before .before .before .before .before .args .out .now)) (c .before .before .before .member-words .ensures)
+    ∙ ap (λ (r : Returned). atFront (ten r) (c .before .before .before .before .before .before .before .before .before .before .args .out .now)) (c .before .before .before .before .before .judge-member .ensures .1 ∙ ap (memberReturned (c .before .before .before .before .before .before .before .before .before .before .args .k) (c .before .before .before .before .before .before .before .before .before .before .args .met)) m)
 
 pub llunareth-judge-member-spec : {M : Type 1} → statement M
 llunareth-judge-member-spec =

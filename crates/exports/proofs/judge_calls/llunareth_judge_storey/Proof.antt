@@ -19,7 +19,8 @@ use Rattle.storeys.proofs.Structs.{storeyjudgment}
 use Rattle.reading.specs.declared.records.Storey.{Storey}
 use Rattle.storeys.specs.Storey.{storeyReturned}
 use Rattle.members.specs.Finding.{Returned}
-use Rattle.exports.specs.Words.{put, ten}
+use Rattle.exports.specs.Words.{ten}
+use Rattle.report.specs.Line.{atFront}
 use Rattle.exports.proofs.Says as Says
 use Rattle.exports.proofs.Says.{words}
 use Rattle.exports.proofs.judge_calls.storey_given.Met as storey-given-met
@@ -98,7 +99,7 @@ answers κs qs a good pre bs = (
           refl,
           λ back. (
             (tt, (refl, (refl, (fix-len (a .1 .1 .1 .0 .ptr) (a .1 .1 .1 .0 .name) (p .2 .0) (a .1 .1 .1 .0 .now) back, tt)))),
-            p .5 ∙ ap (λ (r : Returned). put (ten r) (a .1 .1 .1 .0 .now)) (g .5 .1 ∙ ap (λ (x : Storey). storeyReturned (a .0) x (a .1 .1 .0 .now)) (s .5)),
+            p .5 ∙ ap (λ (r : Returned). atFront (ten r) (a .1 .1 .1 .0 .now)) (g .5 .1 ∙ ap (λ (x : Storey). storeyReturned (a .0) x (a .1 .1 .0 .now)) (s .5)),
           ),
         ),
       ),

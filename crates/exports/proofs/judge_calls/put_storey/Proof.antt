@@ -1,7 +1,7 @@
 use mathlib.Core.Path.{ap, _∙_}
 use mathlib.Core.List.{List}
 use Prim.Native.Nat.{ℕ}
-use Rattle.exports.specs.Words.{put}
+use Rattle.report.specs.Line.{atFront}
 use borrow.Author.Needs.{needs}
 use Rattle.exports.proofs.judge_calls.put_storey.Statement.{statement}
 use Rattle.exports.proofs.judge_calls.put_storey.Tie as tie
@@ -16,7 +16,7 @@ same-length : tie.Need-same-length
 same-length c = search needs
 
 returns : tie.Need-returns
-returns c = c .before .before .put-ten .ensures ∙ ap (λ (w : List ℕ). put w (c .before .before .before .before .before .before .args .out .now)) (c .before .before .before .storey-words .ensures)
+returns c = c .before .before .put-ten .ensures ∙ ap (λ (w : List ℕ). atFront w (c .before .before .before .before .before .before .args .out .now)) (c .before .before .before .storey-words .ensures)
 
 pub put-storey-spec : {M : Type 1} → statement M
 put-storey-spec = tie.close (tie.spec storey-words-requires put-ten-requires same-length returns)

@@ -16,7 +16,8 @@ use Rattle.walk.proofs.Array.{begin, end, over}
 use Rattle.walk.proofs.Fn.{Callee, Knows, Body, Answers, entry, callee, knows, call, meets}
 use Rattle.reading.proofs.Structs.{member, reading, storey}
 use Rattle.reading.specs.Answer.{Told}
-use Rattle.exports.specs.Words.{words as wordsOf, put}
+use Rattle.exports.specs.Words.{words as wordsOf}
+use Rattle.report.specs.Line.{atFront}
 use Rattle.exports.proofs.Says as Says
 use Rattle.exports.proofs.Says.{bytes, words}
 use Rattle.reading.proofs.rows.read.Met as read-met
@@ -119,7 +120,7 @@ answers κs qs a good pre bs = λ γ. (
                           ),
                         ),
                       ),
-                      (h .5 ∙ ap (λ (t : Told). put (wordsOf t) (a .1 .1 .1 .0 .now)) (g .5 .0), (g .5 .1 .0, g .5 .1 .1)),
+                      (h .5 ∙ ap (λ (t : Told). atFront (wordsOf t) (a .1 .1 .1 .0 .now)) (g .5 .0), (g .5 .1 .0, g .5 .1 .1)),
                     ),
                   ),
                 ),

@@ -2,7 +2,7 @@ use borrow.Author.Needs.{needs}
 use mathlib.Core.Path.{ap, _∙_}
 use mathlib.Core.List.{List}
 use Prim.Native.Nat.{ℕ}
-use Rattle.exports.specs.Words.{put}
+use Rattle.report.specs.Line.{atFront}
 use Rattle.exports.proofs.reading_call.put_words.Statement.{statement}
 use Rattle.exports.proofs.reading_call.put_words.Tie as tie
 
@@ -16,7 +16,7 @@ same-length : tie.Need-same-length
 same-length c = search needs
 
 returns : tie.Need-returns
-returns c = c .before .before .put-ten .ensures ∙ ap (λ (w : List ℕ). put w (c .before .before .before .before .before .before .args .out .now)) (c .before .before .before .before .words-of .ensures)
+returns c = c .before .before .put-ten .ensures ∙ ap (λ (w : List ℕ). atFront w (c .before .before .before .before .before .before .args .out .now)) (c .before .before .before .before .words-of .ensures)
 
 pub put-words-spec : {M : Type 1} → statement M
 put-words-spec = tie.close (tie.spec words-of-requires put-ten-requires same-length returns)

@@ -19,7 +19,8 @@ use Rattle.reading.specs.declared.records.Header.{Header}
 use Rattle.reading.proofs.Structs.{header, member, storey}
 use Rattle.members.specs.Finding.{Returned}
 use Rattle.report.specs.Sheet.{reportReturned, bufferAfter}
-use Rattle.exports.specs.Words.{put, ten}
+use Rattle.exports.specs.Words.{ten}
+use Rattle.report.specs.Line.{atFront}
 use Rattle.exports.proofs.Says as Says
 use Rattle.exports.proofs.Says.{bytes, words}
 use Rattle.exports.proofs.judge_calls.header_given.Met as header-given-met
@@ -124,7 +125,7 @@ answers κs qs a good pre bs = (
               λ last. (
                 (refl, (refl, (refl, (fix-len (a .1 .1 .1 .0 .ptr) (a .1 .1 .1 .0 .name) (r .2 .1 .1 .1 .0) (a .1 .1 .1 .0 .now) back, (fix-len (a .1 .1 .1 .1 .0 .ptr) (a .1 .1 .1 .1 .0 .name) (p .2 .0) (a .1 .1 .1 .1 .0 .now) last, tt))))),
                 (
-                  p .5 ∙ ap (λ (t : Returned). put (ten t) (a .1 .1 .1 .1 .0 .now)) (r .5 .1 .0 ∙ ap (λ (x : Header). reportReturned x (a .1 .0 .now) (a .1 .1 .0 .now) (length (a .1 .1 .1 .0 .now))) (h .5)),
+                  p .5 ∙ ap (λ (t : Returned). atFront (ten t) (a .1 .1 .1 .1 .0 .now)) (r .5 .1 .0 ∙ ap (λ (x : Header). reportReturned x (a .1 .0 .now) (a .1 .1 .0 .now) (length (a .1 .1 .1 .0 .now))) (h .5)),
                   r .5 .1 .1 ∙ ap (λ (x : Header). bufferAfter x (a .1 .0 .now) (a .1 .1 .0 .now) (a .1 .1 .1 .0 .now)) (h .5),
                 ),
               ),
