@@ -1,11 +1,10 @@
--- The conditions of demand 3 can be met: two surveys in different orders of storeys and members, with a column that goes from A to C, a wall, tension and
--- damage.
+-- The conditions of demand 3 can be met, and what it carries is there: two accepted surveys in different orders of storeys and members, with a column that
+-- goes from A to C, a wall, tension and damage.
 use Prim.Native.Nat.{ℕ, _+_, _-_, _≤_}
 use native.Mathlib.Omega.{arith}
-use mathlib.Core.Bool.{true}
-use mathlib.Core.List.{List, [], _∷_}
+use mathlib.Core.Bool.{true, false}
+use mathlib.Core.List.{[], _∷_}
 use mathlib.Core.Path.{_≡_, refl}
-use lib.ListN.{take}
 use Rattle.reading.specs.First.{every, any, first}
 use Rattle.reading.specs.Records.{zeroForce, headerFault, storeyFault, memberFault}
 use Rattle.reading.specs.Survey.{listed}
@@ -14,13 +13,16 @@ use Rattle.members.specs.declared.class.Class.the-variants.{ColumnA, ColumnC}
 use Rattle.members.specs.Class.{isWall, detailed, columnClass, wallClass, classOf}
 use Rattle.members.specs.Tables.{places, moments, rotations}
 use Rattle.members.specs.Limits.{interp, blend, columnA, columnB, columnC, wallRows, wallB, mLimitAt, rotationLimitAt}
-use Rattle.members.specs.Finding.{axial, moment, stress, hoops, mLimit, rotationLimit, mDropped, isOver, findingBy}
+use Rattle.members.specs.Finding.{axial, moment, stress, hoops, mLimit, rotationLimit, mDropped, isOver, findingBy, answerBy}
+use Rattle.storeys.specs.declared.BuildingAnswer.{BuildingAnswer}
+use Rattle.storeys.specs.declared.BuildingAnswer.the-variants.{Judged}
 use Rattle.storeys.specs.Totals.{total, some}
-use Rattle.storeys.specs.Storey.{meetsWallShare, axialTotal, overShear, someOver, damaged, exceedsShare, riskyByDamage, storeyRisky, storeyFinding, noMember, rowFault, membersFault}
-use Rattle.storeys.specs.Building.{membersBefore, membersOf, riskyAt, countsFault, storeyRowsFault, shearFaultAt, buildingFault, tilted, someRisky, buildingRisky, buildingFinding, buildingReturned}
+use Rattle.storeys.specs.Storey.{publishedRules, meetsWallShare, axialTotal, overShear, someOver, damaged, exceedsShare, riskyByDamage, storeyRisky, storeyFinding, noMember, rowFault, membersFault, storeyCallFault, storeyAnswerBy}
+use Rattle.storeys.specs.Building.{membersBefore, membersOf, riskyAt, countsFault, storeyRowsFault, shearFaultAt, buildingFault, tilted, someRisky, buildingRisky, buildingFinding, buildingAnswerBy, named}
 use Rattle.storeys.specs.Pairing.{none, pair, EveryPair}
-use Rattle.storeys.specs.Demand3.{Survey, StoreyPairs, Severer, NowhereBetter}
+use Rattle.storeys.specs.Demand3.{Survey, floorAt, Accepted, Over, Risky, BuildingRisky, StoreyPairs, Severer, NowhereBetter, Carried}
 use Rattle.storeys.proofs.Tests.{never}
+use Rattle.storeys.proofs.Demand3.{demand3}
 
 -- what the members below differ in
 pub record Given : Type 0 where
@@ -163,12 +165,37 @@ pub classes : (classOf 90 (member column) ≡ ColumnA) × (classOf 90 (member co
 unfolding classOf detailed columnClass
 classes = (refl, refl)
 
--- both surveys are accepted, and both buildings are Risky: the refusal, tilt and Risky
-abbrev pub answer : Survey → List ℕ
-answer a =
-    let r = buildingReturned (a .header) (a .storeys) (a .members) 0 in
-    r .refusal ∷ take 2 (r .values)
+-- what the call on each building answers: the first names its second storey, the other its first, which is the partner
+abbrev pub answerOne : BuildingAnswer
+answerOne = Judged (record { tilted = false; risky = true; place = 2 })
 
-pub accepted : (answer one ≡ 0 ∷ 0 ∷ 1 ∷ []) × (answer other ≡ 0 ∷ 0 ∷ 1 ∷ [])
-unfolding every any first headerFault storeyFault memberFault detailed columnClass wallClass classOf places moments rotations interp blend columnA columnB columnC wallRows wallB mLimitAt rotationLimitAt axial moment stress hoops mLimit rotationLimit mDropped isOver findingBy total some meetsWallShare axialTotal overShear someOver damaged exceedsShare riskyByDamage storeyRisky storeyFinding noMember rowFault membersFault membersBefore membersOf riskyAt countsFault storeyRowsFault shearFaultAt buildingFault tilted someRisky buildingRisky buildingFinding buildingReturned
-accepted = (refl, refl)
+abbrev pub answerOther : BuildingAnswer
+answerOther = Judged (record { tilted = false; risky = true; place = 1 })
+
+-- both surveys are accepted, and in the first the column is over, the second storey Risky and so the building
+pub record Found : Type 0 where
+  pub one-accepted : Accepted publishedRules one answerOne
+  pub other-accepted : Accepted publishedRules other answerOther
+  pub column-over : Over publishedRules one (floorAt one 0) (member column)
+  pub storey-risky : Risky publishedRules one (floorAt one 1)
+  pub building-risky : BuildingRisky answerOne
+
+pub found : Found
+unfolding every any first headerFault storeyFault memberFault detailed columnClass wallClass classOf places moments rotations interp blend columnA columnB columnC wallRows wallB mLimitAt rotationLimitAt axial moment stress hoops mLimit rotationLimit mDropped isOver findingBy answerBy total some meetsWallShare axialTotal overShear someOver damaged exceedsShare riskyByDamage storeyRisky storeyFinding noMember rowFault membersFault storeyCallFault storeyAnswerBy membersBefore membersOf riskyAt countsFault storeyRowsFault shearFaultAt buildingFault tilted someRisky buildingRisky buildingFinding buildingAnswerBy
+found =
+    record {
+      one-accepted = record { answers = record { same = refl; place = named 1 (omega arith) refl }; no-refusal = refl };
+      other-accepted = record { answers = record { same = refl; place = named 0 (omega arith) refl }; no-refusal = refl };
+      column-over = refl;
+      storey-risky = refl;
+      building-risky = refl;
+    }
+
+-- demand 3 of the two surveys
+pub carried : Carried publishedRules one other answerOne answerOther pairs
+carried = demand3 one other answerOne answerOther (found .one-accepted) (found .other-accepted) pairs met
+
+-- so the partners are over and Risky
+pub partners : Over publishedRules other (floorAt other 1) (member columnLater) × Risky publishedRules other (floorAt other 0) × BuildingRisky answerOther
+unfolding pairs listed membersBefore membersOf EveryPair
+partners = (carried .members .0 .0 (found .column-over), carried .storeys .1 .0 (found .storey-risky), carried .building (found .building-risky))

@@ -1,14 +1,16 @@
--- Any way of pairing off is a pairing: a map of the places of one list to those of another, one to one and onto, in whatever order.
-use Prim.Native.Nat.{ℕ, zero, suc, _-_, _≤_, _<_}
+-- Any way of pairing off is a pairing: a map of the places of one list to those of another, one to one and onto, in whatever order. Its pairs are those
+-- of the map.
+use Prim.Native.Nat.{ℕ, zero, suc, _-_, _≤_, zero-le, suc-le-suc, _<_}
 use native.Mathlib.Omega.{arith}
+use native.Mathlib.Bridge.{le-prop}
 use native.Mathlib.Decide.{decLe}
 use mathlib.Core.List.{List, [], _∷_, _++_}
-use mathlib.Core.Path.{_≡_, refl, sym, ap, subst, _∙_}
+use mathlib.Core.Path.{_≡_, refl, sym, ap, subst, subst-refl, transport, transport⁻¹, pathJ, _∙_}
 use lib.Dec.{ltb}
 use lib.ListN.{length, getD, take, drop}
 use borrow.Author.Tests.{lt-ltb, le-ltb}
 use Rattle.reading.specs.First.{pick}
-use Rattle.storeys.specs.Pairing.{Pairing, none, pair}
+use Rattle.storeys.specs.Pairing.{Pairing, none, pair, EveryPair}
 
 -- places below n go to places below n, no two to the same
 pub record OneToOne (n : ℕ) (σ : ℕ → ℕ) : Type 0 where
@@ -72,8 +74,15 @@ skip-apart j t u nt nu e = go (decLe (suc t) j) (decLe (suc u) j)
     go (no h) (yes l) = omega (arith, rw (le-ltb t j (omega arith), lt-ltb u j l) at e)
     go (no h) (no l) = omega (arith, rw (le-ltb t j (omega arith), le-ltb u j (omega arith)) at e)
 
+-- what holds of a value holds of it along an equation
+along : {B : Type 0} (P : B → Type 0) (R : (y : B) → P y → Type 0) {y z : B} (e : y ≡ z) (p : P y) → R y p ≡ R z (subst P e p)
+along P R {y} e p = pathJ (λ z f. R y p ≡ R z (subst P f p)) (ap (R y) (sym (subst-refl P p))) e
+
 -- the places after the first, where the first's partner is taken out
-later-places : (n : ℕ) (σ : ℕ → ℕ) → OneToOne (suc n) σ → OneToOne n (λ i. skip (σ 0) (σ (suc i)))
+abbrev after : (ℕ → ℕ) → ℕ → ℕ
+after σ i = skip (σ 0) (σ (suc i))
+
+later-places : (n : ℕ) (σ : ℕ → ℕ) → OneToOne (suc n) σ → OneToOne n (after σ)
 later-places n σ o =
     record {
       within = λ i h. skip-within n (σ 0) (σ (suc i)) (o .within 0 (omega arith)) (o .within (suc i) (omega arith)) (other i h);
@@ -83,12 +92,56 @@ later-places n σ o =
     other : (i : ℕ) → i < n → σ (suc i) ≡ σ 0 → ⊥
     other i h e = omega (arith, o .apart (suc i) 0 (omega arith) (omega arith) e)
 
-pub by-places : {A B : Type 0} (Q : A → B → Type 0) (c : A) (d : B) (xs : List A) (ys : List B) (σ : ℕ → ℕ) → length xs ≡ length ys → OneToOne (length xs) σ → ((i : ℕ) → i < length xs → Q (getD xs i c) (getD ys (σ i) d)) → Pairing Q xs ys
-by-places Q c d [] [] σ e o q = none
-by-places Q c d [] (y ∷ ys) σ e o q = let z : ⊥ = omega (arith, e) in absurd z
-by-places Q c d (x ∷ xs) ys σ e o q =
-    let first : σ 0 < length ys = omega (arith, e, o .within 0 (omega arith)) in
-    subst (λ zs. Pairing Q (x ∷ xs) zs) (split d ys (σ 0) first)
-    (pair (take (σ 0) ys) (drop (suc (σ 0)) ys) (q 0 (omega arith))
-    (by-places Q c d xs (without d (σ 0) ys) (λ i. skip (σ 0) (σ (suc i))) (omega (arith, e, length-without d ys (σ 0) first)) (later-places (length xs) σ o)
-    (λ i h. subst (λ z. Q (getD xs i c) z) (sym (kept d ys (σ 0) (σ (suc i)) (λ f. omega (arith, o .apart (suc i) 0 (omega arith) (omega arith) f)))) (q (suc i) (omega arith)))))
+module _ {A B : Type 0} (Q : A → B → Type 0) (c : A) (d : B) where
+  -- place i of xs goes to place σ i of ys, and what belongs to the pair
+  pub record Matching (xs : List A) (ys : List B) (σ : ℕ → ℕ) : Type 0 where
+    pub lengths : length xs ≡ length ys
+    pub one-to-one : OneToOne (length xs) σ
+    pub belongs : (i : ℕ) → i < length xs → Q (getD xs i c) (getD ys (σ i) d)
+
+  module _ (x : A) (xs : List A) (ys : List B) (σ : ℕ → ℕ) (w : Matching (x ∷ xs) ys σ) where
+    first-within : σ 0 < length ys
+    first-within = omega (arith, w .lengths, w .one-to-one .within 0 (omega arith))
+
+    kept-place : (i : ℕ) → i < length xs → getD ys (σ (suc i)) d ≡ getD (without d (σ 0) ys) (after σ i) d
+    kept-place i h = sym (kept d ys (σ 0) (σ (suc i)) (λ f. omega (arith, w .one-to-one .apart (suc i) 0 (omega arith) (omega arith) f)))
+
+    abbrev later : Matching xs (without d (σ 0) ys) (after σ)
+    later =
+        record {
+          lengths = omega (arith, w .lengths, length-without d ys (σ 0) first-within);
+          one-to-one = later-places (length xs) σ (w .one-to-one);
+          belongs = λ i h. subst (Q (getD xs i c)) (kept-place i h) (w .belongs (suc i) (suc-le-suc h));
+        }
+
+  pub by-places : (xs : List A) (ys : List B) (σ : ℕ → ℕ) → Matching xs ys σ → Pairing Q xs ys
+  by-places [] [] σ w = none
+  by-places [] (y ∷ ys) σ w = let z : ⊥ = omega (arith, w .lengths) in absurd z
+  by-places (x ∷ xs) ys σ w =
+      subst (Pairing Q (x ∷ xs)) (split d ys (σ 0) (first-within x xs ys σ w))
+      (pair (take (σ 0) ys) (drop (suc (σ 0)) ys) (w .belongs 0 (suc-le-suc zero-le))
+      (by-places xs (without d (σ 0) ys) (after σ) (later x xs ys σ w)))
+
+  -- the pairs of `by-places` are those of the places i and σ i: what holds of these holds of every pair, and the other way round
+  module _ (R : (x : A) (y : B) → Q x y → Type 0) where
+    first-pair : (x : A) (xs : List A) (ys : List B) (σ : ℕ → ℕ) (w : Matching (x ∷ xs) ys σ) → (R x (getD ys (σ 0) d) (w .belongs 0 (suc-le-suc zero-le)) × EveryPair R (by-places xs (without d (σ 0) ys) (after σ) (later x xs ys σ w))) ≡ EveryPair R (by-places (x ∷ xs) ys σ w)
+    unfolding by-places EveryPair
+    first-pair x xs ys σ w =
+        along (Pairing Q (x ∷ xs)) (λ zs. EveryPair R) (split d ys (σ 0) (first-within x xs ys σ w))
+        (pair (take (σ 0) ys) (drop (suc (σ 0)) ys) (w .belongs 0 (suc-le-suc zero-le)) (by-places xs _ _ (later x xs ys σ w)))
+
+    pub pairs-of-places : (xs : List A) (ys : List B) (σ : ℕ → ℕ) (w : Matching xs ys σ) → ((i : ℕ) (h : i < length xs) → R (getD xs i c) (getD ys (σ i) d) (w .belongs i h)) → EveryPair R (by-places xs ys σ w)
+    unfolding by-places EveryPair
+    pairs-of-places [] [] σ w r = record {}
+    pairs-of-places [] (y ∷ ys) σ w r = let z : ⊥ = omega (arith, w .lengths) in absurd z
+    pairs-of-places (x ∷ xs) ys σ w r =
+        transport (first-pair x xs ys σ w)
+        (r 0 _, pairs-of-places xs _ _ (later x xs ys σ w) (λ i h. transport (along (Q (getD xs i c)) (R (getD xs i c)) (kept-place x xs ys σ w i h) _) (r (suc i) (suc-le-suc h))))
+
+    pub places-of-pairs : (xs : List A) (ys : List B) (σ : ℕ → ℕ) (w : Matching xs ys σ) → EveryPair R (by-places xs ys σ w) → (i : ℕ) (h : i < length xs) → R (getD xs i c) (getD ys (σ i) d) (w .belongs i h)
+    places-of-pairs [] ys σ w u i h = let z : ⊥ = omega arith in absurd z
+    places-of-pairs (x ∷ xs) ys σ w u zero h =
+        subst (λ l. R x (getD ys (σ 0) d) (w .belongs 0 l)) (le-prop _ h) (transport⁻¹ (first-pair x xs ys σ w) u .0)
+    places-of-pairs (x ∷ xs) ys σ w u (suc i) (suc-le-suc h) =
+        transport⁻¹ (along (Q (getD xs i c)) (R (getD xs i c)) (kept-place x xs ys σ w i h) _)
+        (places-of-pairs xs _ _ (later x xs ys σ w) (transport⁻¹ (first-pair x xs ys σ w) u .1) i h)
