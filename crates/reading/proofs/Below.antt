@@ -25,6 +25,10 @@ module _ (p : ℕ → Bool) where
   unfolding every
   every-more n e f = rw (add-one, e, f)
 
+  pub every-next : (n : ℕ) → every p (n + 1) ≡ (every p n && p n)
+  unfolding every
+  every-next n = rw add-one
+
   pub every-fails : (n j : ℕ) → j < n → p j ≡ false → every p n ≡ false
   unfolding every
   every-fails zero j h e = absurd (not-suc-le-zero h)

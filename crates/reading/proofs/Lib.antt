@@ -12,6 +12,7 @@ pub mod Validity
 pub mod Written
 pub mod Placed
 pub mod Says
+pub mod Scan
 pub mod Structs
 pub mod Filling
 pub mod Accepted

@@ -23,16 +23,11 @@ use Rattle.reading.specs.declared.records.Tag.the-variants.{B, S, M}
 use Rattle.reading.proofs.Accepted.{Clean, header-clean, storey-clean, member-clean, nothing-after}
 use Rattle.reading.proofs.Below.{and-left, and-right}
 use Rattle.reading.proofs.Firsts.{first-clear}
-use Rattle.reading.proofs.Held.{shaped-fits}
+use Rattle.reading.proofs.Held.{shaped-fits, numbers}
 use Rattle.reading.proofs.Numbers.{length-listed, length-members}
 use Rattle.reading.proofs.Spelt.{write-field}
 
 -- ---- a line
--- f j, f (j + 1), ..: n numbers
-abbrev numbers : (ℕ → ℕ) → ℕ → ℕ → List ℕ
-numbers f j zero = []
-numbers f j (suc n) = f j ∷ numbers f (suc j) n
-
 by-byte : (t : Bool) (b e : ℕ) (l : List ℕ) → eqb b 10 ≡ t → (e < length l → getD l e 0 ≡ 10) → pick t 0 (suc e) < suc (length l) → getD (b ∷ l) (pick t 0 (suc e)) 0 ≡ 10
 by-byte true b e l q f h = eqb-true b 10 q
 by-byte false b e l q f h = f (omega arith)

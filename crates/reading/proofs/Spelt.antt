@@ -12,7 +12,7 @@ use lib.ListN.{getD}
 use borrow.Author.Tests.{eqb-true, leb-true, leb-false, ltb-true, ltb-false, lt-ltb, le-ltb, eq-eqb, le-leb, lt-leb}
 use Rattle.reading.specs.First.{pick}
 use Rattle.reading.specs.Records.{zeroForce}
-use Rattle.reading.specs.Spelling.{column, spelled, same, pushed, value, written, fieldOf}
+use Rattle.reading.specs.Spelling.{column, spelled, same, pushed, value, written, minusOf, fieldOf}
 use Rattle.reading.specs.Writing.{Spellable, fieldText}
 use Rattle.reading.proofs.Below.{and-left, and-right}
 use Rattle.reading.proofs.Columns.{same-eq, blank-digits}
@@ -47,7 +47,7 @@ module _ (sign : ℕ) (p : Plain sign) where
   push-tenth false j n h e = rw (ten-more n (suc j), ten-more n j) at e
 
   -- column w adds its digit to the number that the columns before it make
-  push-column : (w n : ℕ) → pushed (n / 10 ^ suc w) (column sign n w) ≡ n / 10 ^ w
+  pub push-column : (w n : ℕ) → pushed (n / 10 ^ suc w) (column sign n w) ≡ n / 10 ^ w
   unfolding column
   push-column zero n = push-digit (n / 10) (n % 10) (omega arith) ∙ omega arith
   push-column (suc j) n = push-tenth (ltb n 10) j n (ltb-true n 10) (push-column j (n / 10))
@@ -69,7 +69,7 @@ by-tenth true n a b x e f g = f (ltb-true n 10 e)
 by-tenth false n a b x e f g = g (ltb-false n 10 e)
 
 -- a number of w digits at most, without a minus, has a blank left of them
-plain-blank : (w n : ℕ) → 0 < w → n < 10 ^ w → column 32 n w ≡ 32
+pub plain-blank : (w n : ℕ) → 0 < w → n < 10 ^ w → column 32 n w ≡ 32
 unfolding column
 plain-blank zero n p h = absurd (not-suc-le-zero p)
 plain-blank (suc zero) n p h = by-tenth (ltb n 10) n _ _ 32 refl (λ l. refl) (λ l. let z : ⊥ = omega arith in absurd z)
@@ -138,7 +138,7 @@ written-plain : (n : ℕ) → n ≤ 9_999_999 → written 32 (spelled 8 32 n) �
 written-plain n h = written-spelled 32 n refl (omega arith) (plain-blank 7 n (omega arith) (omega arith))
 
 by-force : (t : Bool) (v : ℕ) → leb zeroForce v ≡ t → Spellable true v → fieldOf true (pick t (spelled 8 32 (v - zeroForce)) (spelled 8 45 (zeroForce - v))) ≡ some v
-unfolding fieldOf
+unfolding fieldOf minusOf
 by-force true v e h =
     let l = leb-true zeroForce v e in
     let q : zeroForce + (v - zeroForce) ≡ v = omega arith in
@@ -159,7 +159,7 @@ written-is : (sign : ℕ) (t : List ℕ) → written sign t ≡ true → t ≡ s
 unfolding written
 written-is sign t w = same-eq t (spelled 8 sign (value 0 t)) (and-right (eqb (getD t 0 0) 32) _ w)
 
-written-small : (t : List ℕ) → written 32 t ≡ true → value 0 t ≤ 9_999_999
+pub written-small : (t : List ℕ) → written 32 t ≡ true → value 0 t ≤ 9_999_999
 unfolding written
 written-small t w =
     let h = eqb-true (getD t 0 0) 32 (and-left (eqb (getD t 0 0) 32) _ w) in
@@ -203,6 +203,6 @@ wrote-force false t v w e = wrote-minus t v (some-of (written 45 t && ltb 0 (val
 
 -- writing what was read gives the bytes
 pub write-field : (force : Bool) (t : List ℕ) (v : ℕ) → fieldOf force t ≡ some v → Spells force t v
-unfolding fieldOf
+unfolding fieldOf minusOf
 write-field false t v e = wrote-plain t v (some-of (written 32 t) (value 0 t) v e)
 write-field true t v e = wrote-force (written 32 t) t v refl e

@@ -14,7 +14,6 @@ use Rattle.reading.specs.First.{pick, every}
 use Rattle.reading.specs.Records.{Allowed, between, either, allows, never, zeroForce, ranges, fields, inRange, headerValues, storeyValues, memberValues, headerFault, storeyFault, memberFault}
 use Rattle.reading.specs.Spelling.{column, spelled}
 use Rattle.reading.specs.Lines.{tagByte, lineEnd, shaped, isForce, fieldAt, numberIn, valueAt, fieldFault, headerAt, storeyAt, memberAt}
-use Rattle.reading.specs.Field.{FieldsOf}
 use Rattle.reading.specs.Writing.{Spellable, fieldText, fieldsText, lineText}
 use Rattle.reading.specs.declared.records.Header.{Header}
 use Rattle.reading.specs.declared.records.Storey.{Storey}
@@ -24,9 +23,9 @@ use Rattle.reading.specs.declared.records.Tag.the-variants.{B, S, M}
 use Rattle.reading.proofs.Below.{and-left, and-right, every-at, every-more}
 use Rattle.reading.proofs.Accepted.{Clean}
 use Rattle.reading.proofs.Firsts.{first-zero}
-use Rattle.reading.proofs.Held.{header-held, storey-held, member-held}
+use Rattle.reading.proofs.Held.{Ranged, header-ranged, storey-ranged, member-ranged, header-held, storey-held, member-held}
+use Rattle.reading.proofs.Fields.{three-fields}
 use Rattle.reading.proofs.Spelt.{read-field}
-use Rattle.reading.proofs.Validity.{clear}
 
 -- ---- numbers in range can be written
 abbrev within : Allowed → Bool → Bool
@@ -49,10 +48,6 @@ within-spells (between a b) true v w e =
 within-spells (either a b) false v w e =
     one-of (eqb v a) (eqb v b) v a b refl refl e (leb-true a 9_999_999 (and-left (leb a 9_999_999) _ w)) (leb-true b 9_999_999 (and-right (leb a 9_999_999) _ w))
 within-spells (either a b) true v w e = let z : _≡_ {A = ℕ} 0 1 = cc in absurd (omega arith)
-
--- every field of a line is in its range
-abbrev pub Ranged : Tag → List ℕ → Type 0
-Ranged tag vs = every (inRange tag vs) (fields tag) ≡ true
 
 all-within : (tag : Tag) (vs : List ℕ) → Ranged tag vs → every (λ j. within (getD (ranges tag (getD vs 2 0)) j never) (isForce tag j)) (fields tag) ≡ true
 unfolding every
@@ -181,11 +176,6 @@ module _ (tag : Tag) (vs rest : List ℕ) where
       let z : 0 + j ≡ j = omega arith in
       rw (e, append-assoc (fieldsText tag 0 vs) (10 ∷ []) rest) (rw z at (fields-at tag vs (10 ∷ rest) 0 j h))
 
-three-fields : (tag : Tag) → 2 < fields tag
-three-fields B = omega arith
-three-fields S = omega arith
-three-fields M = omega arith
-
 -- a line written at place `at` of a file
 module _ (tag : Tag) (s : List ℕ) (at : ℕ) (vs rest : List ℕ) (p : drop at s ≡ lineText tag vs ++ rest) (l : length vs ≡ fields tag) (r : Ranged tag vs) where
   field-is : (j : ℕ) → j < fields tag → fieldAt tag s at j ≡ some (getD vs j 0)
@@ -205,34 +195,22 @@ module _ (tag : Tag) (s : List ℕ) (at : ℕ) (vs rest : List ℕ) (p : drop at
   line-clean =
       record { form = rw p (shaped-line tag vs rest l); written = first-zero 0 (λ r. r) (fieldFault tag s at) (fields tag) refl fault-none }
 
-  line-holds : FieldsOf tag s at (record { values = vs; fault = 0 })
-  line-holds = record { fault = sym (line-clean .written); values = λ j h. sym (value-is j h) }
+  line-holds : (j : ℕ) → j < fields tag → getD vs j 0 ≡ valueAt tag s at j
+  line-holds j h = sym (value-is j h)
 
 -- ---- the three lines
-header-ranged : (h : Header) → headerFault h ≡ 0 → Ranged B (headerValues h)
-unfolding headerFault
-header-ranged h e = clear (every (inRange B (headerValues h)) 6) _ 3 e (omega arith) .0
-
-storey-ranged : (st : Storey) → storeyFault st ≡ 0 → Ranged S (storeyValues st)
-unfolding storeyFault
-storey-ranged st e = clear (every (inRange S (storeyValues st)) 3) _ 3 e (omega arith) .0
-
-member-ranged : (m : Member) → memberFault m ≡ 0 → Ranged M (memberValues m)
-unfolding memberFault
-member-ranged m e = clear (every (inRange M (memberValues m)) 26) _ 3 e (omega arith) .0
-
 module _ (s : List ℕ) (at : ℕ) (rest : List ℕ) where
   pub header-typed : (h : Header) → headerFault h ≡ 0 → drop at s ≡ lineText B (headerValues h) ++ rest → Clean B s at × (h ≡ headerAt s at)
   header-typed h e p =
       let r = header-ranged h e in
-      (line-clean B s at (headerValues h) rest p refl r, header-held s at (record { values = headerValues h; fault = 0 }) h (line-holds B s at (headerValues h) rest p refl r) refl)
+      (line-clean B s at (headerValues h) rest p refl r, header-held s at (headerValues h) h (line-holds B s at (headerValues h) rest p refl r) refl)
 
   pub storey-typed : (st : Storey) → storeyFault st ≡ 0 → drop at s ≡ lineText S (storeyValues st) ++ rest → Clean S s at × (st ≡ storeyAt s at)
   storey-typed st e p =
       let r = storey-ranged st e in
-      (line-clean S s at (storeyValues st) rest p refl r, storey-held s at (record { values = storeyValues st; fault = 0 }) st (line-holds S s at (storeyValues st) rest p refl r) refl)
+      (line-clean S s at (storeyValues st) rest p refl r, storey-held s at (storeyValues st) st (line-holds S s at (storeyValues st) rest p refl r) refl)
 
   pub member-typed : (m : Member) → memberFault m ≡ 0 → drop at s ≡ lineText M (memberValues m) ++ rest → Clean M s at × (m ≡ memberAt s at)
   member-typed m e p =
       let r = member-ranged m e in
-      (line-clean M s at (memberValues m) rest p refl r, member-held s at (record { values = memberValues m; fault = 0 }) m (line-holds M s at (memberValues m) rest p refl r) refl)
+      (line-clean M s at (memberValues m) rest p refl r, member-held s at (memberValues m) m (line-holds M s at (memberValues m) rest p refl r) refl)

@@ -8,7 +8,7 @@ use lib.Dec.{eqb}
 use lib.ListN.{take, drop, getD}
 use lib.Seq.{getD-take, getD-drop}
 use borrow.Author.Tests.{eqb-true, eq-eqb, ne-eqb, lt-ltb}
-use Rattle.reading.specs.Spelling.{spelled, same, value, written, fieldOf}
+use Rattle.reading.specs.Spelling.{spelled, same, value, written, minusOf}
 use Rattle.reading.specs.declared.cursor.Field.the-variants.{Number, Unwritten}
 use Rattle.reading.specs.Field.{fieldStep}
 use Rattle.reading.proofs.Below.{and-left, and-right}
@@ -26,29 +26,17 @@ unfolding written
 written-by l at sign n r e f g = g ∙ rw (text-head l at, eq-eqb _ _ e, f)
 
 module _ (t : List ℕ) (n next : ℕ) (f : n ≡ value 0 t) where
-  pub plain-number : written 32 t ≡ true → Number n (record { at = next }) ≡ fieldStep (fieldOf false t) next
-  unfolding fieldOf
-  plain-number w = rw (w, f)
+  pub minus-zero : n ≡ 0 → Unwritten (record { at = next }) ≡ fieldStep (minusOf t) next
+  unfolding minusOf
+  minus-zero z = let e : value 0 t ≡ 0 = sym f ∙ z in rw e (simp and-false)
 
-  pub force-number : written 32 t ≡ true → Number (1_000_000 + n) (record { at = next }) ≡ fieldStep (fieldOf true t) next
-  unfolding fieldOf
-  force-number w = rw (w, f)
+  pub minus-number : written 45 t ≡ true → (n ≡ 0 → ⊥) → Number (1_000_000 - n) (record { at = next }) ≡ fieldStep (minusOf t) next
+  unfolding minusOf
+  minus-number w z = rw (w, lt-ltb 0 (value 0 t) (omega (arith, z)), f)
 
-  pub force-zero : written 32 t ≡ false → n ≡ 0 → Unwritten (record { at = next }) ≡ fieldStep (fieldOf true t) next
-  unfolding fieldOf
-  force-zero w z = let e : value 0 t ≡ 0 = sym f ∙ z in rw (w, e) (simp and-false)
-
-  pub force-minus : written 32 t ≡ false → written 45 t ≡ true → (n ≡ 0 → ⊥) → Number (1_000_000 - n) (record { at = next }) ≡ fieldStep (fieldOf true t) next
-  unfolding fieldOf
-  force-minus w v z = rw (w, v, lt-ltb 0 (value 0 t) (omega (arith, z)), f)
-
-  pub force-not : written 32 t ≡ false → written 45 t ≡ false → Unwritten (record { at = next }) ≡ fieldStep (fieldOf true t) next
-  unfolding fieldOf
-  force-not w v = rw (w, v)
-
-pub plain-not : (t : List ℕ) (next : ℕ) → written 32 t ≡ false → Unwritten (record { at = next }) ≡ fieldStep (fieldOf false t) next
-unfolding fieldOf
-plain-not t next w = rw w
+pub minus-not : (t : List ℕ) (next : ℕ) → written 45 t ≡ false → Unwritten (record { at = next }) ≡ fieldStep (minusOf t) next
+unfolding minusOf
+minus-not t next w = rw w
 
 -- a number with a minus has six digits at most
 pub minus-small : (t : List ℕ) → written 45 t ≡ true → value 0 t < 1_000_000

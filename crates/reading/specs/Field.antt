@@ -1,16 +1,24 @@
 -- What a cursor's step answers: each case of the answer with what it holds.
 use Prim.Native.Nat.{ℕ, _<_}
+use mathlib.Core.Bool.{Bool, not, _&&_, _||_}
 use mathlib.Core.List.{List}
 use mathlib.Core.Path.{_≡_}
+use lib.Dec.{leb, ltb, eqb}
 use lib.ListN.{getD}
+use Rattle.reading.specs.First.{pick, every}
 use mathlib.Core.Option.{Option, some, none}
 use Rattle.reading.specs.declared.cursor.Cursor.{Cursor}
 use Rattle.reading.specs.declared.cursor.Field.{Field}
 use Rattle.reading.specs.declared.cursor.Field.the-variants.{Number, Unwritten}
 use Rattle.reading.specs.declared.lines.Fields.{Fields}
 use Rattle.reading.specs.declared.records.Tag.{Tag}
-use Rattle.reading.specs.Lines.{fieldsFault, valueAt}
+use Rattle.reading.specs.Lines.{fieldAt, isWritten, valueAt}
 use Rattle.reading.specs.Records.{fields}
+
+-- column b may stand after columns that make v: a blank while there is no digit, and not last; a digit, and a first 0 only last
+abbrev pub goesOn : ℕ → ℕ → Bool → Bool
+goesOn v b last =
+    pick (eqb b 32) (not last && eqb v 0) ((leb 48 b && leb b 57) && (last || (ltb 0 v || ltb 48 b)))
 
 -- the field's number if it is written as it must be, and the next place
 abbrev pub fieldStep : Option ℕ → ℕ → Field
@@ -29,7 +37,7 @@ abbrev pub optionOf : Field → Option ℕ
 optionOf (Number v c) = some v
 optionOf (Unwritten c) = none
 
--- the first refusal among a line's fields, and the numbers that they hold
+-- the numbers that a line's fields hold, and whether all are written as they must be
 pub record FieldsOf (tag : Tag) (s : List ℕ) (at : ℕ) (r : Fields) : Type 0 where
-  pub fault : r .fault ≡ fieldsFault tag s at
+  pub written : r .written ≡ every (λ j. isWritten (fieldAt tag s at j)) (fields tag)
   pub values : (j : ℕ) → j < fields tag → getD (r .values) j 0 ≡ valueAt tag s at j

@@ -1,7 +1,7 @@
 -- The lines of a survey file (document 01, "The survey record"): what a line is, what its fields hold, and its first refusal by itself.
 -- A line is given by the file s and the place `at` where it begins.
 use Prim.Native.Nat.{ℕ, suc, _+_, _*_}
-use mathlib.Core.Bool.{Bool, false, _&&_, _||_}
+use mathlib.Core.Bool.{Bool, true, false, _&&_, _||_}
 use mathlib.Core.List.{List, [], _∷_}
 use mathlib.Core.Option.{Option, some, none}
 use lib.Dec.{ltb, eqb}
@@ -45,6 +45,10 @@ fieldAt tag s at j = fieldOf (isForce tag j) (take 8 (drop (at + 1 + 8 * j) s))
 abbrev pub numberIn : Option ℕ → ℕ
 numberIn (some v) = v
 numberIn none = 0
+
+abbrev pub isWritten : Option ℕ → Bool
+isWritten (some v) = true
+isWritten none = false
 
 abbrev pub valueAt : Tag → List ℕ → ℕ → ℕ → ℕ
 valueAt tag s at j = numberIn (fieldAt tag s at j)

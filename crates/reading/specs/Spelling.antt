@@ -39,9 +39,11 @@ value v (b ∷ bs) = value (pushed v b) bs
 unfoldable pub written : ℕ → List ℕ → Bool
 written sign t = eqb (getD t 0 0) 32 && same t (spelled 8 sign (value 0 t))
 
--- the number that a field holds, if it is written as it must be. A minus may stand only in N_D and N_K, and never before 0
+-- a number with a minus, counted from zeroForce: "never before 0"
+unfoldable pub minusOf : List ℕ → Option ℕ
+minusOf t = pick (written 45 t && ltb 0 (value 0 t)) (some (zeroForce - value 0 t)) none
+
+-- the number that a field holds, if it is written as it must be. A minus may stand only in N_D and N_K
 unfoldable pub fieldOf : Bool → List ℕ → Option ℕ
 fieldOf false t = pick (written 32 t) (some (value 0 t)) none
-fieldOf true t =
-    pick (written 32 t) (some (zeroForce + value 0 t))
-    (pick (written 45 t && ltb 0 (value 0 t)) (some (zeroForce - value 0 t)) none)
+fieldOf true t = pick (written 32 t) (some (zeroForce + value 0 t)) (minusOf t)

@@ -3,9 +3,11 @@ ghost use mathlib.Core.Path.{_≡_};
 ghost use mathlib.Core.Bool.{true, false};
 ghost use Prim.Native.Nat.{_+_, _≤_};
 ghost use lib.ListN.{length, take, drop};
-ghost use Rattle.reading.specs.Spelling.{value, written, fieldOf};
+ghost use Rattle.reading.specs.Spelling.{value, written, minusOf, fieldOf};
 ghost use Rattle.reading.specs.Field.{fieldStep, numberOf, nextOf};
 use crate::spelling::digits;
+use crate::spelling::goes_on;
+use crate::spelling::push;
 use crate::spelling::spells;
 
 pub struct Cursor {
@@ -29,14 +31,38 @@ fn is_written(s: &[u8], at: usize, sign: u8, n: u64) -> bool
     spells(s, at, 8, sign, n)
 }
 
-// A field that holds no minus.
+// A field that holds no minus: blanks, and a number after them.
 fn plain_at(s: &[u8], at: usize) -> Field
     requires { ⌜ at + 8 ≤ length (now s) ⌝ }
     ensures { λ r. ⌜ r ≡ fieldStep (fieldOf false (take 8 (drop at (now (s .entry))))) (at + 8) ⌝ }
 {
+    if s[at] != b' ' {
+        return Field::Unwritten(Cursor { at: at + 8 });
+    }
+    let mut v = 0;
+    let mut i = 1;
+    while i < 8 {
+        let b = s[at + i];
+        if !goes_on(v, b, i == 7) {
+            return Field::Unwritten(Cursor { at: at + 8 });
+        }
+        v = push(v, b);
+        i += 1;
+    }
+    Field::Number(v, Cursor { at: at + 8 })
+}
+
+// A field with a minus, counted from -1,000,000.
+fn minus_at(s: &[u8], at: usize) -> Field
+    requires { ⌜ at + 8 ≤ length (now s) ⌝ }
+    ensures { λ r. ⌜ r ≡ fieldStep (minusOf (take 8 (drop at (now (s .entry))))) (at + 8) ⌝ }
+{
     let n = digits(s, at);
-    if is_written(s, at, b' ', n) {
-        return Field::Number(n, Cursor { at: at + 8 });
+    if n == 0 {
+        return Field::Unwritten(Cursor { at: at + 8 });
+    }
+    if is_written(s, at, b'-', n) {
+        return Field::Number(1000000 - n, Cursor { at: at + 8 });
     }
     Field::Unwritten(Cursor { at: at + 8 })
 }
@@ -46,17 +72,11 @@ fn force_at(s: &[u8], at: usize) -> Field
     requires { ⌜ at + 8 ≤ length (now s) ⌝ }
     ensures { λ r. ⌜ r ≡ fieldStep (fieldOf true (take 8 (drop at (now (s .entry))))) (at + 8) ⌝ }
 {
-    let n = digits(s, at);
-    if is_written(s, at, b' ', n) {
-        return Field::Number(1000000 + n, Cursor { at: at + 8 });
+    let f = plain_at(s, at);
+    match f {
+        Field::Number(n, _) => Field::Number(1000000 + n, Cursor { at: at + 8 }),
+        Field::Unwritten(_) => minus_at(s, at),
     }
-    if n == 0 {
-        return Field::Unwritten(Cursor { at: at + 8 });
-    }
-    if is_written(s, at, b'-', n) {
-        return Field::Number(1000000 - n, Cursor { at: at + 8 });
-    }
-    Field::Unwritten(Cursor { at: at + 8 })
 }
 
 impl Cursor {

@@ -1,12 +1,13 @@
 // The lines of a survey file.
 ghost use mathlib.Core.Path.{_≡_};
+ghost use mathlib.Core.Bool.{true, _&&_};
 ghost use Prim.Native.Nat.{ℕ, _+_, _*_, _≤_};
 ghost use lib.Dec.{eqb};
 ghost use lib.ListN.{length, drop, getD};
 ghost use Rattle.reading.specs.First.{pick};
 ghost use Rattle.reading.specs.Records.{allows, never, ranges, fields};
 ghost use Rattle.reading.specs.Field.{optionOf, FieldsOf};
-ghost use Rattle.reading.specs.Lines.{tagByte, lineEnd, shaped, isForce, faultIn, headerBy, storeyBy, memberBy};
+ghost use Rattle.reading.specs.Lines.{tagByte, lineEnd, shaped, isForce, valueAt, isWritten, faultIn, fieldsFault, headerBy, storeyBy, memberBy};
 ghost use Rattle.reading.specs.declared.records.Tag.the-variants.{M};
 use crate::cursor::Cursor;
 use crate::cursor::Field;
@@ -110,10 +111,19 @@ pub(crate) fn earlier(a: u64, b: u64) -> u64
     a
 }
 
-// The numbers of a line's fields, in order, and the first refusal among its fields.
+// The numbers of a line's fields, in order, and whether all of them are written as they must be.
 pub(crate) struct Fields {
-    pub fault: u64,
+    pub written: bool,
     pub values: [u64; 26],
+}
+
+fn written_too(written: bool, f: Field) -> bool
+    ensures { λ r. ⌜ r ≡ (written && isWritten (optionOf f)) ⌝ }
+{
+    match f {
+        Field::Number(_, _) => written,
+        Field::Unwritten(_) => false,
+    }
 }
 
 pub(crate) fn read_fields(s: &[u8], at: usize, tag: Tag) -> Fields
@@ -122,17 +132,51 @@ pub(crate) fn read_fields(s: &[u8], at: usize, tag: Tag) -> Fields
 {
     let n = field_count(tag);
     let mut values = [0u64; 26];
-    let mut fault = 0;
+    let mut written = true;
     let mut c = Cursor { at: at + 1 };
     let mut j = 0;
     while j < n {
         let f = c.field(s, is_force(tag, j));
         values[j] = number_of(f);
-        fault = earlier(fault, fault_of(f, tag, j, values[2]));
+        written = written_too(written, f);
         c = next_of(f);
         j += 1;
     }
-    Fields { fault, values }
+    Fields { written, values }
+}
+
+// The first refusal among a line's fields, of which the third holds `storeys`.
+fn fields_fault(s: &[u8], at: usize, tag: Tag, storeys: u64) -> u64
+    requires { ⌜ (at + 1 + 8 * fields tag ≤ length (now s)) × (storeys ≡ valueAt tag (now s) at 2) ⌝ }
+    ensures { λ r. ⌜ r ≡ fieldsFault tag (now (s .entry)) at ⌝ }
+{
+    let n = field_count(tag);
+    let mut c = Cursor { at: at + 1 };
+    let mut j = 0;
+    while j < n {
+        let f = c.field(s, is_force(tag, j));
+        let x = fault_of(f, tag, j, storeys);
+        if x != 0 {
+            return x;
+        }
+        c = next_of(f);
+        j += 1;
+    }
+    0
+}
+
+// The first refusal of a line by its fields, and then x, that of its record. The fields are looked at one by one only where there is one.
+pub(crate) fn line_fault(s: &[u8], at: usize, tag: Tag, f: Fields, x: u64) -> u64
+    requires { ⌜ (at + 1 + 8 * fields tag ≤ length (now s)) × FieldsOf tag (now s) at f × (f .written ≡ true → x ≡ 0 → fieldsFault tag (now s) at ≡ 0) ⌝ }
+    ensures { λ r. ⌜ r ≡ pick (eqb (fieldsFault tag (now (s .entry)) at) 0) x (fieldsFault tag (now (s .entry)) at) ⌝ }
+{
+    let vs = f.values;
+    if f.written {
+        if x == 0 {
+            return 0;
+        }
+    }
+    earlier(fields_fault(s, at, tag, vs[2]), x)
 }
 
 pub fn header_of(vs: [u64; 26]) -> Header

@@ -3,6 +3,7 @@ ghost use mathlib.Core.Path.{_≡_};
 ghost use Prim.Native.Nat.{_+_, _<_, _≤_};
 ghost use lib.ListN.{length, take, drop};
 ghost use Rattle.reading.specs.Spelling.{column, spelled, same, pushed, value};
+ghost use Rattle.reading.specs.Field.{goesOn};
 
 // Column j of n, counted from the right, with the sign that stands before its first digit.
 pub(crate) fn column_of(sign: u8, n: u64, j: usize) -> u8
@@ -40,8 +41,33 @@ pub(crate) fn spells(s: &[u8], at: usize, w: usize, sign: u8, n: u64) -> bool
     true
 }
 
+// Column b may follow columns that make v and are blanks where v is 0; a number's first digit is no 0 unless it is its last.
+pub(crate) fn goes_on(v: u64, b: u8, last: bool) -> bool
+    ensures { λ r. ⌜ r ≡ goesOn v b last ⌝ }
+{
+    if b == b' ' {
+        if last {
+            return false;
+        }
+        return v == 0;
+    }
+    if b < b'0' {
+        return false;
+    }
+    if b'9' < b {
+        return false;
+    }
+    if last {
+        return true;
+    }
+    if 0 < v {
+        return true;
+    }
+    b'0' < b
+}
+
 // The number v with one more column.
-fn push(v: u64, b: u8) -> u64
+pub(crate) fn push(v: u64, b: u8) -> u64
     requires { ⌜ v < 100_000_000 ⌝ }
     ensures { λ r. ⌜ r ≡ pushed v b ⌝ }
 {

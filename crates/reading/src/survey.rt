@@ -11,6 +11,7 @@ ghost use Rattle.reading.specs.Answer.{tells, told, storeysTold};
 use crate::lines::earlier;
 use crate::lines::header_of;
 use crate::lines::is_shaped;
+use crate::lines::line_fault;
 use crate::lines::member_of;
 use crate::lines::read_fields;
 use crate::lines::storey_of;
@@ -65,8 +66,9 @@ pub(crate) fn header_line(s: &[u8]) -> HeaderLine
     let f = read_fields(s, 0, Tag::B);
     let vs = f.values;
     let h = header_of(vs);
+    let x = header_fault(h);
     HeaderLine {
-        fault: earlier(f.fault, header_fault(h)),
+        fault: line_fault(s, 0, Tag::B, f, x),
         header: h,
     }
 }
@@ -95,8 +97,9 @@ fn storey_line(s: &[u8], at: usize, held: bool) -> StoreyLine
     let f = read_fields(s, at, Tag::S);
     let vs = f.values;
     let r = storey_of(vs);
+    let x = storey_fault(r);
     StoreyLine {
-        fault: earlier(f.fault, storey_fault(r)),
+        fault: line_fault(s, at, Tag::S, f, x),
         storey: r,
     }
 }
@@ -120,8 +123,9 @@ fn member_line(s: &[u8], at: usize, held: bool) -> MemberLine
     let f = read_fields(s, at, Tag::M);
     let vs = f.values;
     let m = member_of(vs);
+    let x = member_fault(m);
     MemberLine {
-        fault: earlier(f.fault, member_fault(m)),
+        fault: line_fault(s, at, Tag::M, f, x),
         number: m.number,
     }
 }

@@ -9,10 +9,10 @@ use Rattle.reading.proofs.lines.read_fields.Statement.{statement}
 use Rattle.reading.proofs.lines.read_fields.Tie as tie
 
 abbrev Inv-loop : tie.InvT-loop
-Inv-loop s at tag n values₀ fault₀ c₀ j₀ values fault c j = Sofar tag s at n values fault (c .at) j
+Inv-loop s at tag n values₀ written₀ c₀ j₀ values written c j = Sofar tag s at n values written (c .at) j
 
 abbrev μ-loop : tie.MeasureT-loop
-μ-loop s at tag n values₀ fault₀ c₀ j₀ values fault c j = n - j
+μ-loop s at tag n values₀ written₀ c₀ j₀ values written c j = n - j
 
 field-count-requires : tie.Need-field-count-requires Inv-loop μ-loop
 field-count-requires c κs = search needs
@@ -38,36 +38,30 @@ mul-values c = omega (arith, c .before .before .before .before .loop .inv .most)
 array-write-values : tie.Need-array-write-values Inv-loop μ-loop
 array-write-values c = omega (arith, c .before .before .before .before .loop .inv .most)
 
-array-read-fault-of : tie.Need-array-read-fault-of Inv-loop μ-loop
-array-read-fault-of c = search needs
-
-fault-of-requires : tie.Need-fault-of-requires Inv-loop μ-loop
-fault-of-requires c κs = search needs
-
-earlier-requires : tie.Need-earlier-requires Inv-loop μ-loop
-earlier-requires c κs = search needs
+written-too-requires : tie.Need-written-too-requires Inv-loop μ-loop
+written-too-requires c κs = search needs
 
 next-of-requires : tie.Need-next-of-requires Inv-loop μ-loop
 next-of-requires c κs = search needs
 
 add-j : tie.Need-add-j Inv-loop μ-loop
-add-j c = omega (arith, c .before .before .before .before .before .before .before .loop .inv .most)
+add-j c = omega (arith, c .before .before .before .before .before .before .loop .inv .most)
 
 loop-less : tie.Need-loop-less Inv-loop μ-loop
 loop-less c = search needs
 
 loop-again : tie.Need-loop-again Inv-loop μ-loop
 loop-again c =
-    let l = c .before .before .before .before .before .before .before .loop in
-    let a = c .before .before .before .before .before .before .before .before .before .before .args in
-    after (a .tag) (a .s .now) (a .at) _ (l .values) (l .fault) (l .c .at) (l .j) (l .inv) (c .before .before .before .before .before .before .loop-test .taken) (c .before .before .before .before .field .result)
-    (rw (c .before .before .before .before .before .is-force .ensures) at (c .before .before .before .before .field .ensures)) _ _ _ _ (c .before .before .before .number-of .ensures) (c .before .before .fault-of .ensures) (c .before .earlier .ensures) (c .next-of .ensures)
+    let l = c .before .before .before .before .before .before .loop in
+    let a = c .before .before .before .before .before .before .before .before .before .args in
+    after (a .tag) (a .s .now) (a .at) _ (l .values) (l .written) (l .c .at) (l .j) (l .inv) (c .before .before .before .before .before .loop-test .taken) (c .before .before .before .field .result)
+    (rw (c .before .before .before .before .is-force .ensures) at (c .before .before .before .field .ensures)) _ _ _ (c .before .before .number-of .ensures) (c .before .written-too .ensures) (c .next-of .ensures)
 
 returns : tie.Need-returns Inv-loop μ-loop
 returns c =
     let l = c .before .loop in
     let e : l .j ≡ fields (c .before .before .before .before .args .tag) = omega (arith, l .inv .turn, l .inv .count) in
-    record { fault = rw e at (l .inv .faults); values = rw e at (l .inv .held) }
+    record { written = rw e at (l .inv .all-written); values = rw e at (l .inv .held) }
 
 pub read-fields-spec : {M : Type 1} → statement M
 read-fields-spec =
@@ -83,9 +77,7 @@ read-fields-spec =
     number-of-requires
     mul-values
     array-write-values
-    array-read-fault-of
-    fault-of-requires
-    earlier-requires
+    written-too-requires
     next-of-requires
     add-j
     loop-less

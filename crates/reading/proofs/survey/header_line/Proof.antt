@@ -1,4 +1,4 @@
-use Rattle.reading.proofs.Held.{shaped-fits, header-unshaped, header-shaped}
+use Rattle.reading.proofs.Held.{shaped-fits, header-unshaped, header-shaped, header-clear}
 use borrow.Author.Tests.{not-true, not-false}
 use mathlib.Core.Path.{sym, _∙_}
 use native.Mathlib.Omega.{arith}
@@ -22,11 +22,14 @@ header-of-requires c κs = search needs
 header-fault-requires : tie.Need-header-fault-requires
 header-fault-requires c κs = search needs
 
-earlier-requires : tie.Need-earlier-requires
-earlier-requires c κs = search needs
+line-fault-requires : tie.Need-line-fault-requires
+line-fault-requires c κs =
+    let a = c .before .before .before .before .before .before .before .args in
+    let o = c .before .before .before .read-fields .ensures in
+    (omega (arith, shaped-fits B (a .s .now) 0 (sym (c .before .before .before .before .before .is-shaped .ensures) ∙ not-false _ (c .before .before .before .before .if1 .left))), o, header-clear _ _ (c .before .before .before .read-fields .result) _ _ o (c .before .header-of .ensures) (c .header-fault .ensures))
 
 returns-2 : tie.Need-returns-2
-returns-2 c = header-shaped _ (c .before .before .before .before .read-fields .result) (c .before .before .header-of .result) _ _ (sym (c .before .before .before .before .before .before .is-shaped .ensures) ∙ not-false _ (c .before .before .before .before .before .if1 .left)) (c .before .before .before .before .read-fields .ensures) (c .before .before .header-of .ensures) (c .before .header-fault .ensures) (c .earlier .ensures)
+returns-2 c = header-shaped _ (c .before .before .before .before .read-fields .result) (c .before .before .header-of .result) _ _ (sym (c .before .before .before .before .before .before .is-shaped .ensures) ∙ not-false _ (c .before .before .before .before .before .if1 .left)) (c .before .before .before .before .read-fields .ensures) (c .before .before .header-of .ensures) (c .before .header-fault .ensures) (c .line-fault .ensures)
 
 pub header-line-spec : {M : Type 1} → statement M
 header-line-spec =
@@ -37,5 +40,5 @@ header-line-spec =
     read-fields-requires
     header-of-requires
     header-fault-requires
-    earlier-requires
+    line-fault-requires
     returns-2)

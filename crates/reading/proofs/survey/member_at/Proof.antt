@@ -13,7 +13,7 @@ member-of-requires : tie.Need-member-of-requires
 member-of-requires c κs = search needs
 
 returns : tie.Need-returns
-returns c = member-held _ _ (c .before .before .read-fields .result) (c .member-of .result) (rw (c .before .before .before .place-of .ensures) at (c .before .before .read-fields .ensures)) (c .member-of .ensures)
+returns c = member-held _ _ (c .before .before .read-fields .result .values) (c .member-of .result) (rw (c .before .before .before .place-of .ensures) at (c .before .before .read-fields .ensures .values)) (c .member-of .ensures)
 
 pub member-at-spec : {M : Type 1} → statement M
 member-at-spec =

@@ -1,4 +1,4 @@
-use Rattle.reading.proofs.Held.{shaped-fits, member-unshaped, member-unheld, member-shaped}
+use Rattle.reading.proofs.Held.{shaped-fits, member-unshaped, member-unheld, member-shaped, member-clear}
 use borrow.Author.Tests.{not-true, not-false}
 use mathlib.Core.Path.{sym, _∙_}
 use native.Mathlib.Omega.{arith}
@@ -25,11 +25,14 @@ member-of-requires c κs = search needs
 member-fault-requires : tie.Need-member-fault-requires
 member-fault-requires c κs = search needs
 
-earlier-requires : tie.Need-earlier-requires
-earlier-requires c κs = search needs
+line-fault-requires : tie.Need-line-fault-requires
+line-fault-requires c κs =
+    let a = c .before .before .before .before .before .before .before .before .args in
+    let o = c .before .before .before .read-fields .ensures in
+    (omega (arith, shaped-fits M (a .s .now) (a .at) (sym (c .before .before .before .before .before .before .is-shaped .ensures) ∙ not-false _ (c .before .before .before .before .before .if1 .left))), o, member-clear _ _ (c .before .before .before .read-fields .result) _ _ o (c .before .member-of .ensures) (c .member-fault .ensures))
 
 returns-3 : tie.Need-returns-3
-returns-3 c = member-shaped _ _ _ (c .before .before .before .before .read-fields .result) (c .before .before .member-of .result) _ _ (sym (c .before .before .before .before .before .before .before .is-shaped .ensures) ∙ not-false _ (c .before .before .before .before .before .before .if1 .left)) (not-false _ (c .before .before .before .before .before .if2 .left)) (c .before .before .before .before .read-fields .ensures) (c .before .before .member-of .ensures) (c .before .member-fault .ensures) (c .earlier .ensures)
+returns-3 c = member-shaped _ _ _ (c .before .before .before .before .read-fields .result) (c .before .before .member-of .result) _ _ (sym (c .before .before .before .before .before .before .before .is-shaped .ensures) ∙ not-false _ (c .before .before .before .before .before .before .if1 .left)) (not-false _ (c .before .before .before .before .before .if2 .left)) (c .before .before .before .before .read-fields .ensures) (c .before .before .member-of .ensures) (c .before .member-fault .ensures) (c .line-fault .ensures)
 
 pub member-line-spec : {M : Type 1} → statement M
 member-line-spec =
@@ -41,5 +44,5 @@ member-line-spec =
     read-fields-requires
     member-of-requires
     member-fault-requires
-    earlier-requires
+    line-fault-requires
     returns-3)

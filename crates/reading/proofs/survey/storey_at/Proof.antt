@@ -13,7 +13,7 @@ storey-of-requires : tie.Need-storey-of-requires
 storey-of-requires c κs = search needs
 
 returns : tie.Need-returns
-returns c = storey-held _ _ (c .before .before .read-fields .result) (c .storey-of .result) (rw (c .before .before .before .place-of .ensures) at (c .before .before .read-fields .ensures)) (c .storey-of .ensures)
+returns c = storey-held _ _ (c .before .before .read-fields .result .values) (c .storey-of .result) (rw (c .before .before .before .place-of .ensures) at (c .before .before .read-fields .ensures .values)) (c .storey-of .ensures)
 
 pub storey-at-spec : {M : Type 1} → statement M
 storey-at-spec =

@@ -1,4 +1,4 @@
-use Rattle.reading.proofs.Held.{shaped-fits, storey-unshaped, storey-unheld, storey-shaped}
+use Rattle.reading.proofs.Held.{shaped-fits, storey-unshaped, storey-unheld, storey-shaped, storey-clear}
 use borrow.Author.Tests.{not-true, not-false}
 use mathlib.Core.Path.{sym, _∙_}
 use native.Mathlib.Omega.{arith}
@@ -25,11 +25,14 @@ storey-of-requires c κs = search needs
 storey-fault-requires : tie.Need-storey-fault-requires
 storey-fault-requires c κs = search needs
 
-earlier-requires : tie.Need-earlier-requires
-earlier-requires c κs = search needs
+line-fault-requires : tie.Need-line-fault-requires
+line-fault-requires c κs =
+    let a = c .before .before .before .before .before .before .before .before .args in
+    let o = c .before .before .before .read-fields .ensures in
+    (omega (arith, shaped-fits S (a .s .now) (a .at) (sym (c .before .before .before .before .before .before .is-shaped .ensures) ∙ not-false _ (c .before .before .before .before .before .if1 .left))), o, storey-clear _ _ (c .before .before .before .read-fields .result) _ _ o (c .before .storey-of .ensures) (c .storey-fault .ensures))
 
 returns-3 : tie.Need-returns-3
-returns-3 c = storey-shaped _ _ _ (c .before .before .before .before .read-fields .result) (c .before .before .storey-of .result) _ _ (sym (c .before .before .before .before .before .before .before .is-shaped .ensures) ∙ not-false _ (c .before .before .before .before .before .before .if1 .left)) (not-false _ (c .before .before .before .before .before .if2 .left)) (c .before .before .before .before .read-fields .ensures) (c .before .before .storey-of .ensures) (c .before .storey-fault .ensures) (c .earlier .ensures)
+returns-3 c = storey-shaped _ _ _ (c .before .before .before .before .read-fields .result) (c .before .before .storey-of .result) _ _ (sym (c .before .before .before .before .before .before .before .is-shaped .ensures) ∙ not-false _ (c .before .before .before .before .before .before .if1 .left)) (not-false _ (c .before .before .before .before .before .if2 .left)) (c .before .before .before .before .read-fields .ensures) (c .before .before .storey-of .ensures) (c .before .storey-fault .ensures) (c .line-fault .ensures)
 
 pub storey-line-spec : {M : Type 1} → statement M
 storey-line-spec =
@@ -41,5 +44,5 @@ storey-line-spec =
     read-fields-requires
     storey-of-requires
     storey-fault-requires
-    earlier-requires
+    line-fault-requires
     returns-3)
