@@ -4,7 +4,7 @@ use native.Mathlib.Omega.{arith}
 use native.Mathlib.Nat.{not-suc-le-zero, le-of-suc-le-suc}
 use mathlib.Core.Bool.{Bool, true, false}
 use mathlib.Core.List.{List, [], _∷_}
-use mathlib.Core.Path.{_≡_, ap, sym, _∙_}
+use mathlib.Core.Path.{_≡_, refl, ap, sym, _∙_}
 use lib.Dec.{eqb}
 use lib.ListN.{length, drop, getD, length-drop}
 use borrow.Author.Tests.{ltb-true}
@@ -13,7 +13,8 @@ use Rattle.reading.specs.Records.{fields, inRange, headerValues, storeyV
 use Rattle.reading.specs.Lines.{tagByte, lineEnd, shaped, valueAt, fieldsFault, headerBy, storeyBy, memberBy, headerAt, storeyAt, memberAt}
 use Rattle.reading.specs.Field.{FieldsOf}
 use Rattle.reading.specs.Survey.{shape, headerLine}
-use Rattle.reading.specs.Checks.{HeaderLineOf, StoreyLineOf, MemberLineOf}
+use Rattle.reading.specs.Checks.{HeaderLineOf, StoreyLineOf, MemberGood, MemberLineOf}
+use Rattle.reading.specs.declared.survey.MemberLine.{MemberLine}
 use Rattle.reading.specs.declared.records.Header.{Header}
 use Rattle.reading.specs.declared.records.Storey.{Storey}
 use Rattle.reading.specs.declared.records.Member.{Member}
@@ -111,24 +112,35 @@ at-numbers f zero k j h = absurd (not-suc-le-zero h)
 at-numbers f (suc n) k zero h = let e : k + 0 ≡ k = omega arith in rw e
 at-numbers f (suc n) k (suc j) h = let e : k + suc j ≡ suc k + j = omega arith in rw e (at-numbers f n (suc k) j (le-of-suc-le-suc h))
 
+pub length-numbers : (f : ℕ → ℕ) (k n : ℕ) → length (numbers f k n) ≡ n
+length-numbers f k zero = refl
+length-numbers f k (suc n) = ap suc (length-numbers f (suc k) n)
+
 from-first : (f : ℕ → ℕ) (n j : ℕ) → j < n → getD (numbers f 0 n) j 0 ≡ f j
 from-first f n j h = let e : 0 + j ≡ j = omega arith in at-numbers f n 0 j h ∙ ap f e
 
-module _ (s : List ℕ) (at : ℕ) (f : Fields) (x : ℕ) where
-  pub header-clear : (h : Header) → FieldsOf B s at f → h ≡ headerBy (λ (j : ℕ). getD (f .values) j 0) → x ≡ headerFault h → f .written ≡ true → x ≡ 0 → fieldsFault B s at ≡ 0
-  unfolding headerAt
-  header-clear h o e g w z =
-      all-clear B s at (headerValues (headerAt s at)) (from-first (valueAt B s at) 6) (header-ranged (headerAt s at) (rw (header-held s at (f .values) h (o .values) e) at (sym g ∙ z))) (sym (o .written) ∙ w)
-
-  pub storey-clear : (h : Storey) → FieldsOf S s at f → h ≡ storeyBy (λ (j : ℕ). getD (f .values) j 0) → x ≡ storeyFault h → f .written ≡ true → x ≡ 0 → fieldsFault S s at ≡ 0
-  unfolding storeyAt
-  storey-clear h o e g w z =
-      all-clear S s at (storeyValues (storeyAt s at)) (from-first (valueAt S s at) 3) (storey-ranged (storeyAt s at) (rw (storey-held s at (f .values) h (o .values) e) at (sym g ∙ z))) (sym (o .written) ∙ w)
-
-  pub member-clear : (h : Member) → FieldsOf M s at f → h ≡ memberBy (λ (j : ℕ). getD (f .values) j 0) → x ≡ memberFault h → f .written ≡ true → x ≡ 0 → fieldsFault M s at ≡ 0
+module _ (s : List ℕ) (at : ℕ) (f : Fields) where
+  clear-if : (h : Member) → FieldsOf M s at f → h ≡ memberAt s at → f .written ≡ true → memberFault h ≡ 0 → fieldsFault M s at ≡ 0
   unfolding memberAt
-  member-clear h o e g w z =
-      all-clear M s at (memberValues (memberAt s at)) (from-first (valueAt M s at) 26) (member-ranged (memberAt s at) (rw (member-held s at (f .values) h (o .values) e) at (sym g ∙ z))) (sym (o .written) ∙ w)
+  clear-if h o e w z =
+      all-clear M s at (memberValues (memberAt s at)) (from-first (valueAt M s at) 26) (member-ranged (memberAt s at) (rw e at z)) (sym (o .written) ∙ w)
+
+  pub member-good : (h : Member) (r : MemberLine) → FieldsOf M s at f → h ≡ memberBy (λ (j : ℕ). getD (f .values) j 0) → f .written ≡ true → r .fault ≡ memberFault h → r .number ≡ h .number → MemberGood s at r
+  member-good h r o e w g q =
+      let p = member-held s at (f .values) h (o .values) e in
+      record {
+        written = λ z. clear-if h o p w (sym g ∙ z);
+        good = λ z. rw p at (sym g ∙ z);
+        number = λ z. q ∙ ap (λ (m : Member). m .number) p;
+      }
+
+pub member-unwritten : (s : List ℕ) (at : ℕ) (r : MemberLine) → r .fault ≡ 2 → MemberGood s at r
+member-unwritten s at r e =
+    record {
+      written = λ z. let y : ⊥ = omega (arith, e, z) in absurd y;
+      good = λ z. let y : ⊥ = omega (arith, e, z) in absurd y;
+      number = λ z. let y : ⊥ = omega (arith, e, z) in absurd y;
+    }
 
 -- ---- the first refusal of a line
 pub header-unshaped : (s : List ℕ) (h : Header) → shaped B (drop 0 s) ≡ false → HeaderLineOf s (record { fault = 1; header = h })

@@ -20,3 +20,4 @@ pub mod Spelt
 pub mod Resent
 pub mod Typed
 pub mod Reread
+pub mod Framed

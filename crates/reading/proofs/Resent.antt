@@ -12,7 +12,7 @@ use lib.Seq.{drop-cons, drop-drop, getD-drop, take-all, take-append-le, drop-app
 use borrow.Author.Tests.{eqb-true}
 use Rattle.reading.specs.First.{pick}
 use Rattle.reading.specs.Records.{Allowed, fields, headerValues, storeyValues, memberValues}
-use Rattle.reading.specs.Lines.{tagByte, lineEnd, shaped, isForce, fieldAt, numberIn, valueAt, faultIn, fieldFault, headerAt, storeyAt, memberAt}
+use Rattle.reading.specs.Lines.{tagByte, lineEnd, shaped, isForce, fieldAt, numberIn, valueAt, faultIn, fieldFault, fieldsFault, headerAt, storeyAt, memberAt}
 use Rattle.reading.specs.Survey.{place, membersBefore, storey, memberPlace, member, surveyFault, listed, storeysOf, membersOf, accepted, refused, survey}
 use Rattle.reading.specs.Writing.{fieldText, fieldsText, lineText, membersText, storeysText, fileText, total}
 use Rattle.reading.specs.declared.records.Header.{Header}
@@ -42,14 +42,14 @@ held : (o : Option ℕ) (a : Allowed) → faultIn o a ≡ 0 → o ≡ some (numb
 held (some v) a e = refl
 held none a e = let z : ⊥ = omega (arith, e) in absurd z
 
-module _ (tag : Tag) (s : List ℕ) (at : ℕ) (c : Clean tag s at) where
+module _ (tag : Tag) (s : List ℕ) (at : ℕ) (w : fieldsFault tag s at ≡ 0) where
   field-text : (j : ℕ) → j < fields tag → take 8 (drop (at + 1 + 8 * j) s) ≡ fieldText (isForce tag j) (valueAt tag s at j)
   unfolding fieldFault fieldAt
   field-text j h =
       write-field (isForce tag j) (take 8 (drop (at + 1 + 8 * j) s)) (valueAt tag s at j)
-      (held (fieldAt tag s at j) _ (first-clear 0 (λ r. r) (fieldFault tag s at) (fields tag) j (c .written) h)) .text
+      (held (fieldAt tag s at j) _ (first-clear 0 (λ r. r) (fieldFault tag s at) (fields tag) j w h)) .text
 
-  fields-text : (n j : ℕ) → j + n ≤ fields tag → drop (at + 1 + 8 * j) s ≡ fieldsText tag j (numbers (valueAt tag s at) j n) ++ drop (at + 1 + 8 * (j + n)) s
+  pub fields-text : (n j : ℕ) → j + n ≤ fields tag → drop (at + 1 + 8 * j) s ≡ fieldsText tag j (numbers (valueAt tag s at) j n) ++ drop (at + 1 + 8 * (j + n)) s
   unfolding fieldsText
   fields-text zero j h = let e : j + 0 ≡ j = omega arith in rw e
   fields-text (suc n) j h =
@@ -58,6 +58,7 @@ module _ (tag : Tag) (s : List ℕ) (at : ℕ) (c : Clean tag s at) where
       sym (take-append-drop 8 (drop (at + 1 + 8 * j) s))
       ∙ rw (field-text j (omega arith), drop-drop 8 (at + 1 + 8 * j) s, p, fields-text n (suc j) (omega arith), q) (sym (append-assoc (fieldText (isForce tag j) (valueAt tag s at j)) _ _))
 
+module _ (tag : Tag) (s : List ℕ) (at : ℕ) (c : Clean tag s at) where
   line-text : drop at s ≡ lineText tag (numbers (valueAt tag s at) 0 (fields tag)) ++ drop (at + 2 + 8 * fields tag) s
   unfolding shaped lineText
   line-text =
@@ -73,7 +74,7 @@ module _ (tag : Tag) (s : List ℕ) (at : ℕ) (c : Clean tag s at) where
       let z : 0 + fields tag ≡ fields tag = omega arith in
       let r : suc (at + 1 + 8 * fields tag) ≡ at + 2 + 8 * fields tag = omega arith in
       drop-cons s at 0 (omega arith)
-      ∙ rw (g, i, fields-text (fields tag) 0 (omega arith), z, drop-cons s (at + 1 + 8 * fields tag) 0 (omega arith), k, r) (simp append-assoc)
+      ∙ rw (g, i, fields-text tag s at (c .written) (fields tag) 0 (omega arith), z, drop-cons s (at + 1 + 8 * fields tag) 0 (omega arith), k, r) (simp append-assoc)
 
 header-text : (s : List ℕ) (at : ℕ) → Clean B s at → drop at s ≡ lineText B (headerValues (headerAt s at)) ++ drop (at + 50) s
 unfolding headerAt

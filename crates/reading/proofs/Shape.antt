@@ -10,6 +10,7 @@ use lib.ListN.{length, drop, getD, length-drop, drop-of-length-le}
 use lib.Seq.{drop-cons, getD-drop}
 use borrow.Author.Tests.{eq-eqb, ne-eqb, lt-ltb, le-ltb, ltb-true, ltb-false}
 use Rattle.reading.specs.Records.{fields}
+use Rattle.reading.specs.Field.{framed}
 use Rattle.reading.specs.Lines.{tagByte, lineEnd, shaped}
 use Rattle.reading.specs.declared.records.Tag.{Tag}
 use Rattle.reading.specs.declared.records.Tag.the-variants.{B, S, M}
@@ -63,3 +64,13 @@ module _ (l : List ℕ) (at : ℕ) (t : Tag) where
       let p : lineEnd (drop at l) ≡ 8 * fields t + 1 = omega arith in
       let q : end ≡ at + (8 * fields t + 1) = omega arith in
       rw (head, eq-eqb _ _ e, eq-eqb _ _ p, q, shift-test at (length l) (8 * fields t + 1) h, ← length-drop at l)
+
+  -- its tag and its LF where they must stand
+  pub too-short : length l - at ≤ 8 * fields t + 1 → false ≡ framed t (drop at l)
+  too-short h = rw (length-drop at l, le-ltb _ _ h)
+
+  pub other-tag : (getD l at 0 ≡ tagByte t → ⊥) → false ≡ framed t (drop at l)
+  other-tag ne = rw (head, ne-eqb _ _ ne) (simp and-false)
+
+  pub by-last : (n : ℕ) → n ≡ fields t → 8 * n + 1 < length l - at → getD l at 0 ≡ tagByte t → eqb (getD l (at + (8 * n + 1)) 0) 10 ≡ framed t (drop at l)
+  by-last n q h e = rw (q, length-drop at l, lt-ltb (8 * fields t + 1) (length l - at) (omega arith), head, eq-eqb _ _ e, getD-drop at l (8 * fields t + 1) 0)

@@ -114,14 +114,14 @@ module _ (ys : List ℕ) where
   end-field false v = end-spelled 8 32 v (λ q. omega (arith, q))
   end-field true v = end-either (leb zeroForce v) (v - zeroForce) (zeroForce - v)
 
-end-fields : (tag : Tag) (j : ℕ) (vs ys : List ℕ) → lineEnd (fieldsText tag j vs ++ ys) ≡ 8 * length vs + lineEnd ys
+pub end-fields : (tag : Tag) (j : ℕ) (vs ys : List ℕ) → lineEnd (fieldsText tag j vs ++ ys) ≡ 8 * length vs + lineEnd ys
 unfolding fieldsText
 end-fields tag j [] ys = omega arith
 end-fields tag j (v ∷ vs) ys =
     rw (append-assoc (fieldText (isForce tag j) v) (fieldsText tag (suc j) vs) ys, end-field (fieldsText tag (suc j) vs ++ ys) (isForce tag j) v, end-fields tag (suc j) vs ys)
     (omega arith)
 
-tag-other : (tag : Tag) → eqb (tagByte tag) 10 ≡ false
+pub tag-other : (tag : Tag) → eqb (tagByte tag) 10 ≡ false
 tag-other B = refl
 tag-other S = refl
 tag-other M = refl

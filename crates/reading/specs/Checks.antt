@@ -28,6 +28,12 @@ pub record StoreyLineOf (s : List ℕ) (at : ℕ) (held : Bool) (r : StoreyLine)
   pub fault : r .fault ≡ storeyFirst s at held
   pub holds : r .fault ≡ 0 → r .storey ≡ storeyAt s at
 
+-- fault 0 only where neither the fields of the line nor the member is refused
+pub record MemberGood (s : List ℕ) (at : ℕ) (r : MemberLine) : Type 0 where
+  pub written : r .fault ≡ 0 → fieldsFault M s at ≡ 0
+  pub good : r .fault ≡ 0 → memberFault (memberAt s at) ≡ 0
+  pub number : r .fault ≡ 0 → r .number ≡ memberAt s at .number
+
 pub record MemberLineOf (s : List ℕ) (at : ℕ) (held : Bool) (r : MemberLine) : Type 0 where
   pub fault : r .fault ≡ memberFirst s at held
   pub number : r .fault ≡ 0 → r .number ≡ memberAt s at .number

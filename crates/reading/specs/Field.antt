@@ -1,10 +1,10 @@
 -- What a cursor's step answers: each case of the answer with what it holds.
-use Prim.Native.Nat.{ℕ, _<_}
+use Prim.Native.Nat.{ℕ, _+_, _*_, _<_}
 use mathlib.Core.Bool.{Bool, not, _&&_, _||_}
 use mathlib.Core.List.{List}
 use mathlib.Core.Path.{_≡_}
 use lib.Dec.{leb, ltb, eqb}
-use lib.ListN.{getD}
+use lib.ListN.{length, getD}
 use Rattle.reading.specs.First.{pick, every}
 use mathlib.Core.Option.{Option, some, none}
 use Rattle.reading.specs.declared.cursor.Cursor.{Cursor}
@@ -12,7 +12,7 @@ use Rattle.reading.specs.declared.cursor.Field.{Field}
 use Rattle.reading.specs.declared.cursor.Field.the-variants.{Number, Unwritten}
 use Rattle.reading.specs.declared.lines.Fields.{Fields}
 use Rattle.reading.specs.declared.records.Tag.{Tag}
-use Rattle.reading.specs.Lines.{fieldAt, isWritten, valueAt}
+use Rattle.reading.specs.Lines.{tagByte, fieldAt, isWritten, valueAt}
 use Rattle.reading.specs.Records.{fields}
 
 -- column b may stand after columns that make v: a blank while there is no digit, and not last; a digit, and a first 0 only last
@@ -36,6 +36,11 @@ nextOf (Unwritten c) = c
 abbrev pub optionOf : Field → Option ℕ
 optionOf (Number v c) = some v
 optionOf (Unwritten c) = none
+
+-- the bytes have the tag and the LF of a line where they must stand; another LF may stand between
+abbrev pub framed : Tag → List ℕ → Bool
+framed tag s =
+    ltb (8 * fields tag + 1) (length s) && (eqb (getD s 0 0) (tagByte tag) && eqb (getD s (8 * fields tag + 1) 0) 10)
 
 -- the numbers that a line's fields hold, and whether all are written as they must be
 pub record FieldsOf (tag : Tag) (s : List ℕ) (at : ℕ) (r : Fields) : Type 0 where

@@ -1,12 +1,12 @@
 // The lines of a survey file.
 ghost use mathlib.Core.Path.{_≡_};
-ghost use mathlib.Core.Bool.{true, _&&_};
+ghost use mathlib.Core.Bool.{_&&_};
 ghost use Prim.Native.Nat.{ℕ, _+_, _*_, _≤_};
 ghost use lib.Dec.{eqb};
 ghost use lib.ListN.{length, drop, getD};
 ghost use Rattle.reading.specs.First.{pick};
 ghost use Rattle.reading.specs.Records.{allows, never, ranges, fields};
-ghost use Rattle.reading.specs.Field.{optionOf, FieldsOf};
+ghost use Rattle.reading.specs.Field.{optionOf, framed, FieldsOf};
 ghost use Rattle.reading.specs.Lines.{tagByte, lineEnd, shaped, isForce, valueAt, isWritten, faultIn, fieldsFault, headerBy, storeyBy, memberBy};
 ghost use Rattle.reading.specs.declared.records.Tag.the-variants.{M};
 use crate::cursor::Cursor;
@@ -61,6 +61,23 @@ pub(crate) fn is_shaped(s: &[u8], at: usize, tag: Tag) -> bool
         return false;
     }
     end < s.len()
+}
+
+// The tag and the LF of a line of this tag stand where they must.
+pub(crate) fn is_framed(s: &[u8], at: usize, tag: Tag) -> bool
+    ensures { λ r. ⌜ r ≡ framed tag (drop at (now (s .entry))) ⌝ }
+{
+    let last = 8 * field_count(tag) + 1;
+    if s.len() <= at {
+        return false;
+    }
+    if s.len() - at <= last {
+        return false;
+    }
+    if s[at] != tag_byte(tag) {
+        return false;
+    }
+    s[at + last] == b'\n'
 }
 
 fn is_force(tag: Tag, j: usize) -> bool
@@ -146,7 +163,7 @@ pub(crate) fn read_fields(s: &[u8], at: usize, tag: Tag) -> Fields
 }
 
 // The first refusal among a line's fields, of which the third holds `storeys`.
-fn fields_fault(s: &[u8], at: usize, tag: Tag, storeys: u64) -> u64
+pub(crate) fn fields_fault(s: &[u8], at: usize, tag: Tag, storeys: u64) -> u64
     requires { ⌜ (at + 1 + 8 * fields tag ≤ length (now s)) × (storeys ≡ valueAt tag (now s) at 2) ⌝ }
     ensures { λ r. ⌜ r ≡ fieldsFault tag (now (s .entry)) at ⌝ }
 {
@@ -163,20 +180,6 @@ fn fields_fault(s: &[u8], at: usize, tag: Tag, storeys: u64) -> u64
         j += 1;
     }
     0
-}
-
-// The first refusal of a line by its fields, and then x, that of its record. The fields are looked at one by one only where there is one.
-pub(crate) fn line_fault(s: &[u8], at: usize, tag: Tag, f: Fields, x: u64) -> u64
-    requires { ⌜ (at + 1 + 8 * fields tag ≤ length (now s)) × FieldsOf tag (now s) at f × (f .written ≡ true → x ≡ 0 → fieldsFault tag (now s) at ≡ 0) ⌝ }
-    ensures { λ r. ⌜ r ≡ pick (eqb (fieldsFault tag (now (s .entry)) at) 0) x (fieldsFault tag (now (s .entry)) at) ⌝ }
-{
-    let vs = f.values;
-    if f.written {
-        if x == 0 {
-            return 0;
-        }
-    }
-    earlier(fields_fault(s, at, tag, vs[2]), x)
 }
 
 pub fn header_of(vs: [u64; 26]) -> Header

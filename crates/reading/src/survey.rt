@@ -4,14 +4,15 @@ ghost use Prim.Native.Nat.{ℕ, _+_, _≤_};
 ghost use lib.Dec.{eqb};
 ghost use lib.ListN.{length, getD};
 ghost use Rattle.reading.specs.First.{pick, any};
-ghost use Rattle.reading.specs.Checks.{HeaderLineOf, StoreyLineOf, MemberLineOf, MembersDue, CheckedOf};
+ghost use Rattle.reading.specs.Checks.{HeaderLineOf, StoreyLineOf, MemberGood, MemberLineOf, MembersDue, CheckedOf};
 ghost use Rattle.reading.specs.Survey.{place, membersFault, survey};
 ghost use Rattle.reading.specs.Lines.{storeyAt, memberAt};
 ghost use Rattle.reading.specs.Answer.{tells, told, storeysTold};
 use crate::lines::earlier;
+use crate::lines::fields_fault;
 use crate::lines::header_of;
+use crate::lines::is_framed;
 use crate::lines::is_shaped;
-use crate::lines::line_fault;
 use crate::lines::member_of;
 use crate::lines::read_fields;
 use crate::lines::storey_of;
@@ -66,9 +67,8 @@ pub(crate) fn header_line(s: &[u8]) -> HeaderLine
     let f = read_fields(s, 0, Tag::B);
     let vs = f.values;
     let h = header_of(vs);
-    let x = header_fault(h);
     HeaderLine {
-        fault: line_fault(s, 0, Tag::B, f, x),
+        fault: earlier(fields_fault(s, 0, Tag::B, vs[2]), header_fault(h)),
         header: h,
     }
 }
@@ -97,15 +97,34 @@ fn storey_line(s: &[u8], at: usize, held: bool) -> StoreyLine
     let f = read_fields(s, at, Tag::S);
     let vs = f.values;
     let r = storey_of(vs);
-    let x = storey_fault(r);
     StoreyLine {
-        fault: line_fault(s, at, Tag::S, f, x),
+        fault: earlier(fields_fault(s, at, Tag::S, vs[2]), storey_fault(r)),
         storey: r,
     }
 }
 
-// An M line; of a good one only the number is wanted.
-fn member_line(s: &[u8], at: usize, held: bool) -> MemberLine
+// The M line at `at` by its fields and its record: fault 0 where neither is refused.
+fn member_fields(s: &[u8], at: usize) -> MemberLine
+    requires { ⌜ at + 209 ≤ length (now s) ⌝ }
+    ensures { λ r. ⌜ MemberGood (now (s .entry)) at r ⌝ }
+{
+    let f = read_fields(s, at, Tag::M);
+    let vs = f.values;
+    let m = member_of(vs);
+    if !f.written {
+        return MemberLine {
+            fault: 2,
+            number: 0,
+        };
+    }
+    MemberLine {
+        fault: member_fault(m),
+        number: m.number,
+    }
+}
+
+// The checks of an M line one after another; of a good one only the number is wanted.
+fn member_checks(s: &[u8], at: usize, held: bool) -> MemberLine
     ensures { λ r. ⌜ MemberLineOf (now (s .entry)) at held r ⌝ }
 {
     if !is_shaped(s, at, Tag::M) {
@@ -123,11 +142,25 @@ fn member_line(s: &[u8], at: usize, held: bool) -> MemberLine
     let f = read_fields(s, at, Tag::M);
     let vs = f.values;
     let m = member_of(vs);
-    let x = member_fault(m);
     MemberLine {
-        fault: line_fault(s, at, Tag::M, f, x),
+        fault: earlier(fields_fault(s, at, Tag::M, vs[2]), member_fault(m)),
         number: m.number,
     }
+}
+
+// An M line. Its fields are read first: where they hold a good member, there is no LF among them, and no check is left.
+fn member_line(s: &[u8], at: usize, held: bool) -> MemberLine
+    ensures { λ r. ⌜ MemberLineOf (now (s .entry)) at held r ⌝ }
+{
+    if held {
+        if is_framed(s, at, Tag::M) {
+            let l = member_fields(s, at);
+            if l.fault == 0 {
+                return l;
+            }
+        }
+    }
+    member_checks(s, at, held)
 }
 
 // 5 where one of the first n numbers is v.

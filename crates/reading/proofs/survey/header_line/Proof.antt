@@ -1,4 +1,4 @@
-use Rattle.reading.proofs.Held.{shaped-fits, header-unshaped, header-shaped, header-clear}
+use Rattle.reading.proofs.Held.{shaped-fits, header-unshaped, header-shaped}
 use borrow.Author.Tests.{not-true, not-false}
 use mathlib.Core.Path.{sym, _∙_}
 use native.Mathlib.Omega.{arith}
@@ -19,17 +19,22 @@ read-fields-requires c κs = omega (arith, shaped-fits B (c .before .before .bef
 header-of-requires : tie.Need-header-of-requires
 header-of-requires c κs = search needs
 
+array-read-fields-fault : tie.Need-array-read-fields-fault
+array-read-fields-fault c = search needs
+
+fields-fault-requires : tie.Need-fields-fault-requires
+fields-fault-requires c κs =
+    let a = c .before .before .before .before .before .before .args in
+    (omega (arith, shaped-fits B (a .s .now) 0 (sym (c .before .before .before .before .is-shaped .ensures) ∙ not-false _ (c .before .before .before .if1 .left))), c .before .before .read-fields .ensures .values 2 (omega arith))
+
 header-fault-requires : tie.Need-header-fault-requires
 header-fault-requires c κs = search needs
 
-line-fault-requires : tie.Need-line-fault-requires
-line-fault-requires c κs =
-    let a = c .before .before .before .before .before .before .before .args in
-    let o = c .before .before .before .read-fields .ensures in
-    (omega (arith, shaped-fits B (a .s .now) 0 (sym (c .before .before .before .before .before .is-shaped .ensures) ∙ not-false _ (c .before .before .before .before .if1 .left))), o, header-clear _ _ (c .before .before .before .read-fields .result) _ _ o (c .before .header-of .ensures) (c .header-fault .ensures))
+earlier-requires : tie.Need-earlier-requires
+earlier-requires c κs = search needs
 
 returns-2 : tie.Need-returns-2
-returns-2 c = header-shaped _ (c .before .before .before .before .read-fields .result) (c .before .before .header-of .result) _ _ (sym (c .before .before .before .before .before .before .is-shaped .ensures) ∙ not-false _ (c .before .before .before .before .before .if1 .left)) (c .before .before .before .before .read-fields .ensures) (c .before .before .header-of .ensures) (c .before .header-fault .ensures) (c .line-fault .ensures)
+returns-2 c = header-shaped _ (c .before .before .before .before .before .read-fields .result) (c .before .before .before .header-of .result) _ _ (sym (c .before .before .before .before .before .before .before .is-shaped .ensures) ∙ not-false _ (c .before .before .before .before .before .before .if1 .left)) (c .before .before .before .before .before .read-fields .ensures) (c .before .before .before .header-of .ensures) (c .before .header-fault .ensures) (c .earlier .ensures ∙ rw (c .before .before .fields-fault .ensures))
 
 pub header-line-spec : {M : Type 1} → statement M
 header-line-spec =
@@ -39,6 +44,8 @@ header-line-spec =
     returns
     read-fields-requires
     header-of-requires
+    array-read-fields-fault
+    fields-fault-requires
     header-fault-requires
-    line-fault-requires
+    earlier-requires
     returns-2)

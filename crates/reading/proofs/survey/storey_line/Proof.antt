@@ -1,4 +1,4 @@
-use Rattle.reading.proofs.Held.{shaped-fits, storey-unshaped, storey-unheld, storey-shaped, storey-clear}
+use Rattle.reading.proofs.Held.{shaped-fits, storey-unshaped, storey-unheld, storey-shaped}
 use borrow.Author.Tests.{not-true, not-false}
 use mathlib.Core.Path.{sym, _∙_}
 use native.Mathlib.Omega.{arith}
@@ -22,17 +22,22 @@ read-fields-requires c κs = omega (arith, shaped-fits S (c .before .before .bef
 storey-of-requires : tie.Need-storey-of-requires
 storey-of-requires c κs = search needs
 
+array-read-fields-fault : tie.Need-array-read-fields-fault
+array-read-fields-fault c = search needs
+
+fields-fault-requires : tie.Need-fields-fault-requires
+fields-fault-requires c κs =
+    let a = c .before .before .before .before .before .before .before .args in
+    (omega (arith, shaped-fits S (a .s .now) (a .at) (sym (c .before .before .before .before .before .is-shaped .ensures) ∙ not-false _ (c .before .before .before .before .if1 .left))), c .before .before .read-fields .ensures .values 2 (omega arith))
+
 storey-fault-requires : tie.Need-storey-fault-requires
 storey-fault-requires c κs = search needs
 
-line-fault-requires : tie.Need-line-fault-requires
-line-fault-requires c κs =
-    let a = c .before .before .before .before .before .before .before .before .args in
-    let o = c .before .before .before .read-fields .ensures in
-    (omega (arith, shaped-fits S (a .s .now) (a .at) (sym (c .before .before .before .before .before .before .is-shaped .ensures) ∙ not-false _ (c .before .before .before .before .before .if1 .left))), o, storey-clear _ _ (c .before .before .before .read-fields .result) _ _ o (c .before .storey-of .ensures) (c .storey-fault .ensures))
+earlier-requires : tie.Need-earlier-requires
+earlier-requires c κs = search needs
 
 returns-3 : tie.Need-returns-3
-returns-3 c = storey-shaped _ _ _ (c .before .before .before .before .read-fields .result) (c .before .before .storey-of .result) _ _ (sym (c .before .before .before .before .before .before .before .is-shaped .ensures) ∙ not-false _ (c .before .before .before .before .before .before .if1 .left)) (not-false _ (c .before .before .before .before .before .if2 .left)) (c .before .before .before .before .read-fields .ensures) (c .before .before .storey-of .ensures) (c .before .storey-fault .ensures) (c .line-fault .ensures)
+returns-3 c = storey-shaped _ _ _ (c .before .before .before .before .before .read-fields .result) (c .before .before .before .storey-of .result) _ _ (sym (c .before .before .before .before .before .before .before .before .is-shaped .ensures) ∙ not-false _ (c .before .before .before .before .before .before .before .if1 .left)) (not-false _ (c .before .before .before .before .before .before .if2 .left)) (c .before .before .before .before .before .read-fields .ensures) (c .before .before .before .storey-of .ensures) (c .before .storey-fault .ensures) (c .earlier .ensures ∙ rw (c .before .before .fields-fault .ensures))
 
 pub storey-line-spec : {M : Type 1} → statement M
 storey-line-spec =
@@ -43,6 +48,8 @@ storey-line-spec =
     returns-2
     read-fields-requires
     storey-of-requires
+    array-read-fields-fault
+    fields-fault-requires
     storey-fault-requires
-    line-fault-requires
+    earlier-requires
     returns-3)
