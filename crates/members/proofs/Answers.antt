@@ -27,7 +27,7 @@ judged s k met m e f = simp (e, eq-eqb (memberFault m) 0 f)
 
 -- and no other is
 pub record Accepted (s : LimitSet) (k : ℕ) (met : Bool) (m : Member) (f : Finding) : Type 0 where
-  pub level : knowledge k ≡ true
+  pub knowledge-level : knowledge k ≡ true
   pub good : memberFault m ≡ 0
   pub found : f ≡ findingBy s k met m
 
@@ -36,7 +36,7 @@ unfolding answerBy
 accepted s k met m f e = go (knowledge k) (eqb (memberFault m) 0) refl refl e
   where
     go : (a b : Bool) → knowledge k ≡ a → eqb (memberFault m) 0 ≡ b → pick a (pick b (Judged (findingBy s k met m)) (Refused (memberFault m))) (Refused 3) ≡ Judged f → Accepted s k met m f
-    go true true h g e = record { level = h; good = eqb-true (memberFault m) 0 g; found = cc }
+    go true true h g e = record { knowledge-level = h; good = eqb-true (memberFault m) 0 g; found = cc }
     go true false h g e = let z : _≡_ {A = ℕ} 0 1 = cc in let w : ⊥ = omega arith in absurd w
     go false b h g e = let z : _≡_ {A = ℕ} 0 1 = cc in let w : ⊥ = omega arith in absurd w
 

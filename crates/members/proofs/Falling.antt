@@ -8,7 +8,7 @@ use mathlib.Core.Path.{_≡_}
 use Rattle.members.specs.declared.limits.Row.{Row}
 use Rattle.members.specs.declared.limits.Fraction.{Fraction}
 use Rattle.members.specs.declared.tables.Two.{Two}
-use Rattle.members.specs.Limits.{interp, level, segment, clamp, blend}
+use Rattle.members.specs.Limits.{interp, rowLimit, segment, clamp, blend}
 use Rattle.members.proofs.Fractions.{_⊑_, ⊑-refl, ⊑-trans}
 use Rattle.members.proofs.Interpolation.{up-to, inside, past, alone}
 
@@ -28,23 +28,23 @@ module _ (p q : Row) (h : q .limit ≤ p .limit) where
       let f : x' - p .at ≡ (x - p .at) + (x' - x) = omega arith in
       rw (e, f) (weights (q .at - x') (x - p .at) (x' - x) (p .limit) (q .limit) h)
 
-  segment-above : (x : ℕ) → p .at ≤ x → x ≤ q .at → level q ⊑ segment p q x
+  segment-above : (x : ℕ) → p .at ≤ x → x ≤ q .at → rowLimit q ⊑ segment p q x
   segment-above x l r =
       let e : q .at - p .at ≡ (q .at - x) + (x - p .at) = omega arith in
       record { cross = rw e (omega (arith, mul-le-mul-right (q .at - x) h)) }
 
-  segment-below : (x : ℕ) → p .at ≤ x → x ≤ q .at → segment p q x ⊑ level p
+  segment-below : (x : ℕ) → p .at ≤ x → x ≤ q .at → segment p q x ⊑ rowLimit p
   segment-below x l r =
       let e : q .at - p .at ≡ (q .at - x) + (x - p .at) = omega arith in
       record { cross = rw e (omega (arith, mul-le-mul-right (x - p .at) h)) }
 
 -- the first row's limit is the greatest
-first : {p : Row} {ps : List Row} → Falling p ps → (x : ℕ) → interp p ps x ⊑ level p
-first {p} end x = rw alone (⊑-refl (level p))
+first : {p : Row} {ps : List Row} → Falling p ps → (x : ℕ) → interp p ps x ⊑ rowLimit p
+first {p} end x = rw alone (⊑-refl (rowLimit p))
 first {p} (step {q = q} {ps = ps} h k f) x = go (decLe x (p .at)) (decLe x (q .at)) (first f x)
   where
-    go : Dec (x ≤ p .at) → Dec (x ≤ q .at) → interp q ps x ⊑ level q → interp p (q ∷ ps) x ⊑ level p
-    go (yes a) b i = rw (up-to p q ps x a) (⊑-refl (level p))
+    go : Dec (x ≤ p .at) → Dec (x ≤ q .at) → interp q ps x ⊑ rowLimit q → interp p (q ∷ ps) x ⊑ rowLimit p
+    go (yes a) b i = rw (up-to p q ps x a) (⊑-refl (rowLimit p))
     go (no a) (yes b) i = rw (inside p q ps x (omega arith) b) (segment-below p q k x (omega arith) b)
     go (no a) (no b) i =
         rw (past p q ps x (omega arith) (omega arith))
@@ -61,7 +61,7 @@ positive {p} (step {q = q} {ps = ps} h k f) x = go (decLe x (p .at)) (decLe x (q
 
 -- a table whose limits do not rise gives a value that does not rise
 pub falls : {p : Row} {ps : List Row} → Falling p ps → (x x' : ℕ) → x ≤ x' → interp p ps x' ⊑ interp p ps x
-falls {p} end x x' l = rw (alone, alone) (⊑-refl (level p))
+falls {p} end x x' l = rw (alone, alone) (⊑-refl (rowLimit p))
 falls {p} (step {q = q} {ps = ps} h k f) x x' l =
     go (decLe x (p .at)) (decLe x (q .at)) (decLe x' (q .at)) (falls f x x' l)
   where
@@ -72,7 +72,7 @@ falls {p} (step {q = q} {ps = ps} h k f) x x' l =
         (record { cross = mul-le-mul-right (q .at - p .at) (segment-falls p q k x x' (omega arith) l c) })
     go (no a) (yes b) (no c) i =
         rw (inside p q ps x (omega arith) b, past p q ps x' (omega arith) (omega arith))
-        (⊑-trans (interp q ps x') (level q) (segment p q x) (omega arith) (first f x') (segment-above p q k x (omega arith) b))
+        (⊑-trans (interp q ps x') (rowLimit q) (segment p q x) (omega arith) (first f x') (segment-above p q k x (omega arith) b))
     go (no a) (no b) c i = rw (past p q ps x (omega arith) (omega arith), past p q ps x' (omega arith) (omega arith)) i
 
 -- one row is at the other's place, and g times its limit is at most h times the other's
@@ -90,8 +90,8 @@ pub record Times (g h : ℕ) (e f : Fraction) : Type 0 where
   pub cross : g * (e .num * f .den) ≤ h * (f .num * e .den)
 
 module _ (g h : ℕ) where
-  level-under : {p q : Row} → Below g h p q → Times g h (level p) (level q)
-  level-under b = record { cross = omega (arith, b .limit) }
+  row-limit-under : {p q : Row} → Below g h p q → Times g h (rowLimit p) (rowLimit q)
+  row-limit-under b = record { cross = omega (arith, b .limit) }
 
   segment-under : {p q p' q' : Row} → Below g h p q → Below g h p' q' → (x : ℕ) → Times g h (segment p p' x) (segment q q' x)
   segment-under {p} {q} {p'} {q'} b c x =
@@ -109,11 +109,11 @@ module _ (g h : ℕ) where
       sum a a' d d' u v l r = omega (arith, mul-le-mul-right u l, mul-le-mul-right v r)
 
   pub under : {p q : Row} {ps qs : List Row} → Under g h p ps q qs → (x : ℕ) → Times g h (interp p ps x) (interp q qs x)
-  under {p} {q} (last b) x = rw (alone p x, alone q x) (level-under b)
+  under {p} {q} (last b) x = rw (alone p x, alone q x) (row-limit-under b)
   under {p} {q} (more {p' = p'} {q' = q'} {ps = ps} {qs = qs} b c u) x = go (decLe x (p .at)) (decLe x (p' .at)) (under u x)
     where
       go : Dec (x ≤ p .at) → Dec (x ≤ p' .at) → Times g h (interp p' ps x) (interp q' qs x) → Times g h (interp p (p' ∷ ps) x) (interp q (q' ∷ qs) x)
-      go (yes d) e i = rw (up-to p p' ps x d, up-to q q' qs x (omega (arith, b .place))) (level-under b)
+      go (yes d) e i = rw (up-to p p' ps x d, up-to q q' qs x (omega (arith, b .place))) (row-limit-under b)
       go (no d) (yes e) i =
           rw (inside p p' ps x (omega arith) e, inside q q' qs x (omega (arith, b .place)) (omega (arith, c .place))) (segment-under b c x)
       go (no d) (no e) i =
@@ -123,7 +123,7 @@ module _ (g h : ℕ) where
 pub padded : (p q : Row) (ps : List Row) → p .at < q .at → p .limit ≡ q .limit → (x : ℕ) → interp q ps x ⊑ interp p (q ∷ ps) x
 padded p q ps h e x = go (decLe x (p .at)) (decLe x (q .at))
   where
-    start : (ps : List Row) → x ≤ q .at → interp q ps x ≡ level q
+    start : (ps : List Row) → x ≤ q .at → interp q ps x ≡ rowLimit q
     start [] a = alone q x
     start (r ∷ rs) a = up-to q r rs x a
 

@@ -7,10 +7,10 @@ use mathlib.Core.Path.{_≡_, refl}
 use borrow.Author.Tests.{le-leb, lt-leb}
 use Rattle.members.specs.declared.limits.Row.{Row}
 use Rattle.members.specs.declared.tables.Two.{Two}
-use Rattle.members.specs.Limits.{row, interp, level, segment, clamp, blend, gap}
+use Rattle.members.specs.Limits.{row, interp, rowLimit, segment, clamp, blend, gap}
 
 module _ (p q : Row) (ps : List Row) (x : ℕ) where
-  pub up-to : x ≤ p .at → interp p (q ∷ ps) x ≡ level p
+  pub up-to : x ≤ p .at → interp p (q ∷ ps) x ≡ rowLimit p
   unfolding interp
   up-to h = simp (le-leb _ _ h)
 
@@ -22,7 +22,7 @@ module _ (p q : Row) (ps : List Row) (x : ℕ) where
   unfolding interp
   past h k = simp (lt-leb _ _ h, lt-leb _ _ k)
 
-pub alone : (p : Row) (x : ℕ) → interp p [] x ≡ level p
+pub alone : (p : Row) (x : ℕ) → interp p [] x ≡ rowLimit p
 unfolding interp
 alone p x = refl
 

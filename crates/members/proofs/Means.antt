@@ -16,7 +16,7 @@ use Rattle.members.specs.declared.tables.Two.{Two}
 use Rattle.members.specs.declared.tables.Places.{Places}
 use Rattle.members.specs.declared.tables.Table.{Table}
 use Rattle.members.specs.Tables.{two}
-use Rattle.members.specs.Limits.{interp, level, segment, blend, gap, clamp, per, columnA, columnB, columnC, wallRows, wallB, exact, quarters}
+use Rattle.members.specs.Limits.{interp, rowLimit, segment, blend, gap, clamp, per, columnA, columnB, columnC, wallRows, wallB, exact, quarters}
 use Rattle.members.specs.Sizes.{Places2, Most2, SizedPlaces, SizedTable, Mean}
 use Rattle.members.proofs.Arithmetic.{product}
 use Rattle.members.proofs.Interpolation.{up-to, inside, past, alone}
@@ -36,8 +36,8 @@ first-limit : {most : ℕ} {p : Row} {ps : List Row} → Rows most p ps → p .l
 first-limit (end h) = h
 first-limit (step h a b r) = h
 
-level-within : {most : ℕ} (p : Row) → p .limit ≤ most → Within most (level p)
-level-within p h = record { positive = omega arith; den = omega arith; mean = omega arith }
+row-limit-within : {most : ℕ} (p : Row) → p .limit ≤ most → Within most (rowLimit p)
+row-limit-within p h = record { positive = omega arith; den = omega arith; mean = omega arith }
 
 segment-within : {most : ℕ} (p q : Row) (x : ℕ) → p .limit ≤ most → q .limit ≤ most → p .at < x → x ≤ q .at → q .at ≤ 200_000 → Within most (segment p q x)
 segment-within {most} p q x h k l r s =
@@ -49,11 +49,11 @@ segment-within {most} p q x h k l r s =
     }
 
 interp-within : {most : ℕ} {p : Row} {ps : List Row} → Rows most p ps → (x : ℕ) → Within most (interp p ps x)
-interp-within {most} {p} (end h) x = rw alone (level-within p h)
+interp-within {most} {p} (end h) x = rw alone (row-limit-within p h)
 interp-within {most} {p} (step {q = q} {ps = ps} h a b r) x = go (decLe x (p .at)) (decLe x (q .at)) (interp-within r x)
   where
     go : Dec (x ≤ p .at) → Dec (x ≤ q .at) → Within most (interp q ps x) → Within most (interp p (q ∷ ps) x)
-    go (yes c) d i = rw (up-to p q ps x c) (level-within p h)
+    go (yes c) d i = rw (up-to p q ps x c) (row-limit-within p h)
     go (no c) (yes d) i = rw (inside p q ps x (omega arith) d) (segment-within p q x h (first-limit r) (omega arith) d b)
     go (no c) (no d) i = rw (past p q ps x (omega arith) (omega arith)) i
 

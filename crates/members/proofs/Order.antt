@@ -18,14 +18,14 @@ use Rattle.members.specs.declared.tables.Two.{Two}
 use Rattle.members.specs.declared.tables.Places.{Places}
 use Rattle.members.specs.declared.tables.Table.{Table}
 use Rattle.members.specs.declared.tables.LimitSet.{LimitSet}
-use Rattle.members.specs.Tables.{two, all, placed, ordered, orderedSet, published, places, moments, rotations}
+use Rattle.members.specs.Tables.{two, all, placesRise, ordered, orderedSet, published, places, moments, rotations}
 use Rattle.members.specs.Limits.{row, interp, blend, gap, per, columnA, columnB, columnC, wallRows, wallB, exact, quarters, mLimitAt, rotationLimitAt}
 use Rattle.members.proofs.Fractions.{_⊑_, ⊑-trans, per-mono, share-mono}
 use Rattle.members.proofs.Falling.{Falling, end, step, positive, falls, Below, last, more, Times, under, padded, blend-values, blend-falls, blend-rises, blend-least, blend-most}
 
 -- the published set meets the conditions
 pub published-ordered : orderedSet published ≡ true
-unfolding all placed ordered places moments rotations
+unfolding all placesRise ordered places moments rotations
 published-ordered = refl
 
 -- one of the tests
@@ -36,7 +36,7 @@ one (b ∷ bs) e zero = and-left b (all bs) e
 one (b ∷ bs) e (suc i) = one bs (and-right b (all bs) e) i
 
 -- the conditions as facts
-pub record Placed (p : Places) : Type 0 where
+pub record Rising (p : Places) : Type 0 where
   pub axial1 : p .axial .r1 < p .axial .r2
   pub axial2 : p .axial .r2 < p .axial .r3
   pub axial3 : p .axial .r3 < p .axial .r4
@@ -44,9 +44,9 @@ pub record Placed (p : Places) : Type 0 where
   pub walls : p .walls .r1 < p .walls .r2
   pub stress : p .stress .r1 < p .stress .r2
 
-pub placed-facts : (p : Places) → placed p ≡ true → Placed p
-unfolding placed
-placed-facts p e =
+pub rising-facts : (p : Places) → placesRise p ≡ true → Rising p
+unfolding placesRise
+rising-facts p e =
     record {
       axial1 = ltb-true _ _ (one _ e 0);
       axial2 = ltb-true _ _ (one _ e 1);
@@ -135,7 +135,7 @@ same-place h = record { place = refl; limit = omega arith }
 plainly : {f g : Fraction} → Times 1 1 f g → f ⊑ g
 plainly t = record { cross = omega (arith, t .cross) }
 
-module _ (p : Places) (t : Table) (pl : Placed p) (o : Ordered t) where
+module _ (p : Places) (t : Table) (pl : Rising p) (o : Ordered t) where
   -- column A
   a-rows : Falling (row (p .axial .r1) (t .a .r1)) (row (p .axial .r2) (t .a .r2) ∷ row (p .axial .r3) (t .a .r3) ∷ row (p .axial .r4) (t .a .r4) ∷ [])
   a-rows = step (pl .axial1) (o .a .first) (step (pl .axial2) (o .a .second) (step (pl .axial3) (o .a .third) end))
@@ -291,7 +291,7 @@ pub record Ratios≤ (n n' v v' ρ ρ' : ℕ) : Type 0 where
   pub stress : v ≤ v'
   pub hoops : ρ' ≤ ρ
 
-module _ (p : Places) (t : Table) (pl : Placed p) (o : Ordered t) {n n' v v' ρ ρ' : ℕ} (r : Ratios≤ n n' v v' ρ ρ') where
+module _ (p : Places) (t : Table) (pl : Rising p) (o : Ordered t) {n n' v v' ρ ρ' : ℕ} (r : Ratios≤ n n' v v' ρ ρ') where
   -- with the class kept: a limit never rises with n or v and never falls with ρ
   pub exact-falls : (k : Class) (zone : ℕ) → exact p t k zone n' v' ρ' ⊑ exact p t k zone n v ρ
   exact-falls ColumnA zone = a-falls p t pl o n n' (r .axial)
@@ -328,11 +328,11 @@ quarters-later b-then-c st h = kept (eqb st 1) (λ e. apart (h (eqb-true st 1 e)
     apart e = let z : _≡_ {A = ℕ} 0 1 = cc in omega arith
 
 module _ (s : LimitSet) (e : orderedSet s ≡ true) {n n' v v' ρ ρ' : ℕ} (r : Ratios≤ n n' v v' ρ ρ') {k k' : Class} (l : Later k k') (zone st : ℕ) (h : st ≡ 1 → k' ≡ ColumnC → k ≡ ColumnC) where
-  rows : Placed (s .places)
-  rows = placed-facts (s .places) (and-left (placed (s .places)) (ordered (s .m) && ordered (s .rotation)) e)
+  rows : Rising (s .places)
+  rows = rising-facts (s .places) (and-left (placesRise (s .places)) (ordered (s .m) && ordered (s .rotation)) e)
 
   both : (ordered (s .m) && ordered (s .rotation)) ≡ true
-  both = and-right (placed (s .places)) (ordered (s .m) && ordered (s .rotation)) e
+  both = and-right (placesRise (s .places)) (ordered (s .m) && ordered (s .rotation)) e
 
   m-order : Ordered (s .m)
   m-order = ordered-facts (s .m) (and-left (ordered (s .m)) (ordered (s .rotation)) both)

@@ -120,8 +120,8 @@ flag true = 1
 flag false = 0
 
 -- the values of a printed member after its number, and n_D
-abbrev pub values : Finding → List ℕ
-values f =
+abbrev pub findingValues : Finding → List ℕ
+findingValues f =
     code (f .class)
     ∷ f .m .0
     ∷ f .«m_limit» .0
@@ -132,7 +132,7 @@ values f =
     ∷ []
 
 abbrev pub found : Finding → Returned
-found f = record { refusal = 0; line = 0; values = values f }
+found f = record { refusal = 0; line = 0; values = findingValues f }
 
 abbrev pub refused : ℕ → Returned
 refused n = record { refusal = n; line = 0; values = [] }

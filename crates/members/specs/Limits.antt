@@ -20,8 +20,8 @@ abbrev pub row : ℕ → ℕ → Row
 row at limit = record { at = at; limit = limit }
 
 -- the limit of a row, as it stands
-abbrev pub level : Row → Fraction
-level p = record { num = p .limit; den = 1 }
+abbrev pub rowLimit : Row → Fraction
+rowLimit p = record { num = p .limit; den = 1 }
 
 -- between two rows: the mean of their limits, each weighed by the distance to the other
 abbrev pub segment : Row → Row → ℕ → Fraction
@@ -30,9 +30,9 @@ segment p q x =
 
 -- over the rows p and ps, of any table: constant up to the first and from the last, linear between neighbours
 unfoldable pub interp : Row → List Row → ℕ → Fraction
-interp p [] x = level p
+interp p [] x = rowLimit p
 interp p (q ∷ ps) x =
-    pick (leb x (p .at)) (level p) (pick (leb x (q .at)) (segment p q x) (interp q ps x))
+    pick (leb x (p .at)) (rowLimit p) (pick (leb x (q .at)) (segment p q x) (interp q ps x))
 
 -- between two places the same, constant outside, times the gap of the places
 abbrev pub clamp : Two → ℕ → ℕ
@@ -55,15 +55,19 @@ columnA p t n =
     (row (p .axial .r2) (t .a .r2) ∷ row (p .axial .r3) (t .a .r3) ∷ row (p .axial .r4) (t .a .r4) ∷ [])
     n
 
+-- a row of column B, by ρ: between its limits at the first and the second ρ
+abbrev pub rowB : ℕ → Two → ℕ → ℕ → ℕ → Row
+rowB at hoops y1 y2 ρ = row at (blend hoops (two y1 y2) ρ)
+
 -- column B: by ρ at each n, then by n
 unfoldable pub columnB : Places → Table → ℕ → ℕ → Fraction
 columnB p t n ρ =
     per (gap (p .hoops))
     (interp
-    (row (p .axial .r1) (blend (p .hoops) (two (t .b1 .r1) (t .b2 .r1)) ρ))
-    (row (p .axial .r2) (blend (p .hoops) (two (t .b1 .r2) (t .b2 .r2)) ρ)
-    ∷ row (p .axial .r3) (blend (p .hoops) (two (t .b1 .r3) (t .b2 .r3)) ρ)
-    ∷ row (p .axial .r4) (blend (p .hoops) (two (t .b1 .r4) (t .b2 .r4)) ρ)
+    (rowB (p .axial .r1) (p .hoops) (t .b1 .r1) (t .b2 .r1) ρ)
+    (rowB (p .axial .r2) (p .hoops) (t .b1 .r2) (t .b2 .r2) ρ
+    ∷ rowB (p .axial .r3) (p .hoops) (t .b1 .r3) (t .b2 .r3) ρ
+    ∷ rowB (p .axial .r4) (p .hoops) (t .b1 .r4) (t .b2 .r4) ρ
     ∷ [])
     n)
 

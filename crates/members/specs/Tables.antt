@@ -86,8 +86,8 @@ abbrev pub under2 : Two → Two → List Bool
 under2 t u = leb (t .r1) (u .r1) ∷ leb (t .r2) (u .r2) ∷ []
 
 -- the rows stand at rising places
-unfoldable pub placed : Places → Bool
-placed p = all (rising4 (p .axial) ++ rising2 (p .hoops) ++ rising2 (p .walls) ++ rising2 (p .stress))
+unfoldable pub placesRise : Places → Bool
+placesRise p = all (rising4 (p .axial) ++ rising2 (p .hoops) ++ rising2 (p .walls) ++ rising2 (p .stress))
 
 -- limits never rise with n or v and never fall with ρ; class A of columns is nowhere below B, nor B below C
 unfoldable pub ordered : Table → Bool
@@ -109,4 +109,4 @@ ordered t =
     ++ falling2 (t .wall))
 
 abbrev pub orderedSet : LimitSet → Bool
-orderedSet s = placed (s .places) && (ordered (s .m) && ordered (s .rotation))
+orderedSet s = placesRise (s .places) && (ordered (s .m) && ordered (s .rotation))

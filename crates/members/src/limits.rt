@@ -2,7 +2,7 @@
 ghost use mathlib.Core.Path.{_≡_};
 ghost use mathlib.Core.List.{[], _∷_};
 ghost use Prim.Native.Nat.{_≤_, _<_};
-ghost use Rattle.members.specs.Limits.{interp, level, segment, clamp, blend, columnA, columnB, columnC, wallRows, wallA, wallB, exact, cutQuarters, quarters, roundM, roundRotation, mLimitAt, rotationLimitAt};
+ghost use Rattle.members.specs.Limits.{interp, rowLimit, segment, clamp, blend, columnA, rowB, columnB, columnC, wallRows, wallA, wallB, exact, cutQuarters, quarters, roundM, roundRotation, mLimitAt, rotationLimitAt};
 ghost use Rattle.members.specs.Sizes.{Places2, Most2, SizedPlaces, SizedTable, SizedSet, SizedRow, Mean};
 use crate::class::Class;
 use crate::tables::LimitSet;
@@ -32,8 +32,8 @@ pub struct Fraction {
     pub den: u64,
 }
 
-fn level(p: Row) -> Fraction
-    ensures { λ r. ⌜ (r ≡ level p) × (r .den ≤ 200_000) ⌝ }
+fn row_limit(p: Row) -> Fraction
+    ensures { λ r. ⌜ (r ≡ rowLimit p) × (r .den ≤ 200_000) ⌝ }
 {
     Fraction {
         num: p.limit,
@@ -58,12 +58,12 @@ fn over_two(a: Row, b: Row, x: u64) -> Fraction
     ensures { λ r. ⌜ (r ≡ interp a (b ∷ []) x) × (r .den ≤ 200_000) ⌝ }
 {
     if x <= a.at {
-        return level(a);
+        return row_limit(a);
     }
     if x <= b.at {
         return segment(a, b, x);
     }
-    level(b)
+    row_limit(b)
 }
 
 // Over four rows.
@@ -72,7 +72,7 @@ fn over_four(a: Row, b: Row, c: Row, d: Row, x: u64) -> Fraction
     ensures { λ r. ⌜ (r ≡ interp a (b ∷ c ∷ d ∷ []) x) × (r .den ≤ 200_000) ⌝ }
 {
     if x <= a.at {
-        return level(a);
+        return row_limit(a);
     }
     if x <= b.at {
         return segment(a, b, x);
@@ -83,7 +83,7 @@ fn over_four(a: Row, b: Row, c: Row, d: Row, x: u64) -> Fraction
     if x <= d.at {
         return segment(c, d, x);
     }
-    level(d)
+    row_limit(d)
 }
 
 // x, or the place of the two that is nearer.
@@ -134,62 +134,28 @@ fn column_a(p: Places, t: Table, n: u64) -> Fraction
     )
 }
 
+// A row of column B, by ρ between its limits at the two ρ.
+fn row_b(at: u64, hoops: Two, y1: u64, y2: u64, rho: u64) -> Row
+    requires { ⌜ (at ≤ 200_000) × Places2 hoops × (y1 ≤ 9_999_999) × (y2 ≤ 9_999_999) ⌝ }
+    ensures { λ r. ⌜ (r ≡ rowB at hoops y1 y2 rho) × SizedRow r ⌝ }
+{
+    let y = Two { r1: y1, r2: y2 };
+    Row {
+        at: at,
+        limit: blend(hoops, y, rho),
+    }
+}
+
 // Column B: ρ first, at each row of n.
 fn column_b(p: Places, t: Table, n: u64, rho: u64) -> Fraction
     requires { ⌜ SizedPlaces p × SizedTable 9_999_999 t ⌝ }
     ensures { λ r. ⌜ r ≡ columnB p t n rho ⌝ }
 {
-    let y1 = blend(
-        p.hoops,
-        Two {
-            r1: t.b1.r1,
-            r2: t.b2.r1,
-        },
-        rho,
-    );
-    let y2 = blend(
-        p.hoops,
-        Two {
-            r1: t.b1.r2,
-            r2: t.b2.r2,
-        },
-        rho,
-    );
-    let y3 = blend(
-        p.hoops,
-        Two {
-            r1: t.b1.r3,
-            r2: t.b2.r3,
-        },
-        rho,
-    );
-    let y4 = blend(
-        p.hoops,
-        Two {
-            r1: t.b1.r4,
-            r2: t.b2.r4,
-        },
-        rho,
-    );
-    let f = over_four(
-        Row {
-            at: p.axial.r1,
-            limit: y1,
-        },
-        Row {
-            at: p.axial.r2,
-            limit: y2,
-        },
-        Row {
-            at: p.axial.r3,
-            limit: y3,
-        },
-        Row {
-            at: p.axial.r4,
-            limit: y4,
-        },
-        n,
-    );
+    let a = row_b(p.axial.r1, p.hoops, t.b1.r1, t.b2.r1, rho);
+    let b = row_b(p.axial.r2, p.hoops, t.b1.r2, t.b2.r2, rho);
+    let c = row_b(p.axial.r3, p.hoops, t.b1.r3, t.b2.r3, rho);
+    let d = row_b(p.axial.r4, p.hoops, t.b1.r4, t.b2.r4, rho);
+    let f = over_four(a, b, c, d, n);
     Fraction {
         num: f.num,
         den: f.den * (p.hoops.r2 - p.hoops.r1),

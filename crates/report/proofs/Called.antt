@@ -13,7 +13,7 @@ use Rattle.reading.specs.declared.records.Member.{Member}
 use Rattle.reading.proofs.Firsts.{last-of}
 use Rattle.reading.proofs.Validity.{clear}
 use Rattle.storeys.specs.Storey.{publishedRules}
-use Rattle.storeys.specs.Building.{storeyAt, membersBefore, membersOf, tilted, buildingRisky, buildingFault, buildingFinding, buildingAnswerBy, placeIn, Answers}
+use Rattle.storeys.specs.Building.{storeyIn, membersBefore, membersOf, tilted, buildingRisky, buildingFault, buildingFinding, buildingAnswerBy, placeIn, Answers}
 use Rattle.storeys.specs.declared.BuildingFinding.{BuildingFinding}
 use Rattle.storeys.specs.declared.BuildingAnswer.{BuildingAnswer}
 use Rattle.storeys.specs.declared.BuildingAnswer.the-variants as building-answer
@@ -37,8 +37,8 @@ module _ (h : Header) (ss : List Storey) (ms : List Member) (none : buildingFaul
       rw e
       (omega (
         arith,
-        length-append (storeyLines k (storeyAt ss i) (membersOf ss ms i)) (storeysLines k ss ms (suc i) n),
-        length-storey-lines k (storeyAt ss i) (membersOf ss ms i),
+        length-append (storeyLines k (storeyIn ss i) (membersOf ss ms i)) (storeysLines k ss ms (suc i) n),
+        length-storey-lines k (storeyIn ss i) (membersOf ss ms i),
         part-length h ss ms none i,
         length-storeys k (suc i) n,
       ))

@@ -15,7 +15,7 @@ use Rattle.members.specs.Finding.{axial, moment, stress, hoops, mLimit, rotatio
 use Rattle.storeys.specs.Totals.{total, some}
 use Rattle.storeys.specs.Storey.{meetsWallShare, axialTotal, overShear, someOver, damaged, exceedsShare, riskyByDamage, storeyRisky, storeyFinding}
 use Rattle.storeys.specs.Building.{membersBefore, membersOf, riskyAt, tilted, someRisky, buildingRisky}
-use Rattle.report.specs.Line.{fields, line}
+use Rattle.report.specs.Line.{printedNumbers, line}
 use Rattle.report.specs.Sheet.{memberLine, storeyLine, buildingLine, memberLines, storeyLines, storeysLines, sheet}
 
 abbrev header : Header
@@ -86,5 +86,5 @@ abbrev lastLine : List ℕ
 lastLine = 66 ∷ 32 ∷ 32 ∷ 32 ∷ 32 ∷ 32 ∷ 32 ∷ 32 ∷ 32 ∷ 32 ∷ 32 ∷ 32 ∷ 48 ∷ 32 ∷ 32 ∷ 32 ∷ 32 ∷ 32 ∷ 32 ∷ 32 ∷ 32 ∷ 32 ∷ 32 ∷ 32 ∷ 49 ∷ 10 ∷ []
 
 pub printed : sheet header (storey ∷ []) (one ∷ other ∷ []) ≡ firstLine ++ (secondLine ++ (thirdLine ++ lastLine))
-unfolding sheet storeysLines storeyLines memberLines memberLine storeyLine buildingLine line fields spelled column any detailed columnClass wallClass classOf places moments rotations interp blend columnA columnB columnC wallRows wallB mLimitAt rotationLimitAt axial moment stress hoops mLimit rotationLimit mDropped isOver findingBy total some meetsWallShare axialTotal overShear someOver damaged exceedsShare riskyByDamage storeyRisky storeyFinding membersBefore membersOf riskyAt tilted someRisky buildingRisky
+unfolding sheet storeysLines storeyLines memberLines memberLine storeyLine buildingLine line printedNumbers spelled column any detailed columnClass wallClass classOf places moments rotations interp blend columnA columnB columnC wallRows wallB mLimitAt rotationLimitAt axial moment stress hoops mLimit rotationLimit mDropped isOver findingBy total some meetsWallShare axialTotal overShear someOver damaged exceedsShare riskyByDamage storeyRisky storeyFinding membersBefore membersOf riskyAt tilted someRisky buildingRisky
 printed = refl

@@ -13,7 +13,7 @@ use Rattle.reading.specs.declared.records.Member.{Member}
 use Rattle.members.specs.Finding.{axialRatioD, finding, flag}
 use Rattle.storeys.specs.Totals.{total, some}
 use Rattle.storeys.specs.Storey.{publishedRules, wallShear, meetsWallShare, axialTotal, over, shearIfOver, overShear, someOver, damaged, riskyByDamage, storeyRisky, storeyFinding}
-use Rattle.storeys.specs.Building.{storeyAt, membersOf, riskyAt, tilted, someRisky, buildingRisky}
+use Rattle.storeys.specs.Building.{storeyIn, membersOf, riskyAt, tilted, someRisky, buildingRisky}
 use Rattle.report.specs.Sheet.{memberLine, storeyLine, buildingLine, memberLines, storeyLines, storeysLines, sheet}
 
 -- texts, one after another
@@ -131,15 +131,15 @@ module _ (h : Header) (ss : List Storey) (ms ns : List Member) (p : (i : ℕ) �
   unfolding buildingRisky someRisky riskyAt
   verdict-same =
       rw
-      (any-same (λ i. storeyRisky publishedRules (h .knowledge) (storeyAt ss i .shear) (membersOf ss ms i)) (λ i. storeyRisky publishedRules (h .knowledge) (storeyAt ss i .shear) (membersOf ss ns i)) (length ss)
-      (λ i. risky-same (h .knowledge) (storeyAt ss i) (membersOf ss ms i) (membersOf ss ns i) (p i)))
+      (any-same (λ i. storeyRisky publishedRules (h .knowledge) (storeyIn ss i .shear) (membersOf ss ms i)) (λ i. storeyRisky publishedRules (h .knowledge) (storeyIn ss i .shear) (membersOf ss ns i)) (length ss)
+      (λ i. risky-same (h .knowledge) (storeyIn ss i) (membersOf ss ms i) (membersOf ss ns i) (p i)))
 
   storeys-order : (k i n : ℕ) (last : List ℕ) → OtherOrders (storeysLines k ss ms i n ++ last) (storeysLines k ss ns i n ++ last)
   unfolding storeysLines
   storeys-order k i zero last = same
   storeys-order k i (suc n) last =
-      rw (append-assoc (storeyLines k (storeyAt ss i) (membersOf ss ms i)), append-assoc (storeyLines k (storeyAt ss i) (membersOf ss ns i)))
-      (part (other-order k (storeyAt ss i) (membersOf ss ms i) (membersOf ss ns i) (p i)) (storeys-order k (suc i) n last))
+      rw (append-assoc (storeyLines k (storeyIn ss i) (membersOf ss ms i)), append-assoc (storeyLines k (storeyIn ss i) (membersOf ss ns i)))
+      (part (other-order k (storeyIn ss i) (membersOf ss ms i) (membersOf ss ns i) (p i)) (storeys-order k (suc i) n last))
 
   pub sheet-order : OtherOrders (sheet h ss ms) (sheet h ss ns)
   unfolding sheet

@@ -17,24 +17,24 @@ use Rattle.members.specs.Finding.{finding, knowledge}
 use Rattle.members.specs.declared.finding.Finding.{Finding}
 use Rattle.storeys.specs.declared.StoreyFinding.{StoreyFinding}
 use Rattle.storeys.specs.declared.StoreyAnswer.{StoreyAnswer}
-use Rattle.storeys.specs.Storey.{publishedRules, meetsWallShare, overShear, storeyFinding, countFault, knowledgeFault, shearFault, noMember, memberAt, rowFault, membersFault, storeyCallFault, storeyAnswerBy, storeyAnswer}
+use Rattle.storeys.specs.Storey.{publishedRules, meetsWallShare, overShear, storeyFinding, countFault, knowledgeFault, shearFault, noMember, memberIn, rowFault, memberRowsFault, storeyCallFault, storeyAnswerBy, storeyAnswer}
 use Rattle.storeys.proofs.Refusals.{None, one, rest, in-order-clear, first-clear}
 use Rattle.report.specs.Line.{stamped}
-use Rattle.report.specs.Sheet.{memberValues, storeyValues, buildingValues, memberLine, storeyLine, buildingLine, memberLines, storeyLines, findingIn}
+use Rattle.report.specs.Sheet.{memberColumns, storeyColumns, buildingColumns, memberLine, storeyLine, buildingLine, memberLines, storeyLines, findingIn}
 use Rattle.report.proofs.Stamps.{stamped-none, stamped-both, length-line}
 
 -- ---- lengths
 pub length-member-line : (number : ℕ) (f : Finding) → length (memberLine number f) ≡ 86
 unfolding memberLine
-length-member-line number f = length-line (77 ∷ []) (memberValues number f)
+length-member-line number f = length-line (77 ∷ []) (memberColumns number f)
 
 pub length-storey-line : (number : ℕ) (f : StoreyFinding) → length (storeyLine number f) ≡ 74
 unfolding storeyLine
-length-storey-line number f = length-line (83 ∷ []) (storeyValues number f)
+length-storey-line number f = length-line (83 ∷ []) (storeyColumns number f)
 
 pub length-building-line : (tilt risky : Bool) → length (buildingLine tilt risky) ≡ 26
 unfolding buildingLine
-length-building-line tilt risky = length-line (66 ∷ []) (buildingValues tilt risky)
+length-building-line tilt risky = length-line (66 ∷ []) (buildingColumns tilt risky)
 
 pub length-member-lines : (k : ℕ) (met : Bool) (ms : List Member) → length (memberLines k met ms) ≡ 86 * length ms
 unfolding memberLines
@@ -51,14 +51,14 @@ length-storey-lines k s ms =
 
 -- ---- the members of a storey
 module _ (k : ℕ) (met : Bool) (rows : List Member) where
-  pub member-good : membersFault rows ≡ 0 → (j : ℕ) → j < length rows → memberFault (memberAt rows j) ≡ 0
-  unfolding membersFault rowFault
-  member-good e j l = pick-clear (memberFault (memberAt rows j)) _ (first-clear (rowFault rows) (length rows) e j l)
+  pub member-good : memberRowsFault rows ≡ 0 → (j : ℕ) → j < length rows → memberFault (memberIn rows j) ≡ 0
+  unfolding memberRowsFault rowFault
+  member-good e j l = pick-clear (memberFault (memberIn rows j)) _ (first-clear (rowFault rows) (length rows) e j l)
 
-  pub members-next : (out before turned : List ℕ) (p next j : ℕ) → stamped out p (memberLines k met (drop j rows)) ≡ before → j < length rows → turned ≡ stamped out p (memberLine (memberAt rows j .number) (finding k met (memberAt rows j))) → next ≡ p + 86 → stamped turned next (memberLines k met (drop (j + 1) rows)) ≡ before
+  pub members-next : (out before turned : List ℕ) (p next j : ℕ) → stamped out p (memberLines k met (drop j rows)) ≡ before → j < length rows → turned ≡ stamped out p (memberLine (memberIn rows j .number) (finding k met (memberIn rows j))) → next ≡ p + 86 → stamped turned next (memberLines k met (drop (j + 1) rows)) ≡ before
   unfolding memberLines
   members-next out before turned p next j e l q n =
-      let m = memberAt rows j in
+      let m = memberIn rows j in
       let b = memberLine (m .number) (finding k met m) in
       rw (q, stamped-both b (memberLines k met (drop (j + 1) rows)) out p next (omega (arith, n, length-member-line (m .number) (finding k met m))), add-one j)
       (rw (drop-cons rows j noMember l) at e)
@@ -73,14 +73,14 @@ test-clear true r l e = refl
 test-clear false r l e = let y : ⊥ = omega (arith, e) in absurd y
 
 module _ (k : ℕ) (s : Storey) (rows : List Member) (none : storeyCallFault publishedRules k s rows ≡ 0) where
-  clear : None (countFault (s .count) (length rows) ∷ knowledgeFault k ∷ storeyFault s ∷ membersFault rows ∷ shearFault (overShear publishedRules k (meetsWallShare (s .shear) rows) rows) ∷ [])
+  clear : None (countFault (s .count) (length rows) ∷ knowledgeFault k ∷ storeyFault s ∷ memberRowsFault rows ∷ shearFault (overShear publishedRules k (meetsWallShare (s .shear) rows) rows) ∷ [])
   unfolding storeyCallFault
   clear = in-order-clear _ none
 
   pub storey-level : knowledge k ≡ true
   storey-level = test-clear (knowledge k) 3 (omega arith) (one (rest clear))
 
-  pub storey-rows : membersFault rows ≡ 0
+  pub storey-rows : memberRowsFault rows ≡ 0
   storey-rows = one (rest (rest (rest clear)))
 
   pub storey-found : (a : StoreyAnswer) (f : StoreyFinding) → a ≡ storeyAnswer k s rows → f ≡ findingIn a → f ≡ storeyFinding publishedRules k (s .shear) rows

@@ -14,7 +14,7 @@ use borrow.Kind.ShrSlice.{pShrS}
 use borrow.Kind.MutSlice.{pMutS}
 use borrow.Table.Referent.{rtF, fInt}
 use Rattle.members.specs.Finding.{knowledge}
-use Rattle.storeys.specs.Storey.{publishedRules, membersFault, storeyCallFault}
+use Rattle.storeys.specs.Storey.{publishedRules, memberRowsFault, storeyCallFault}
 use Rattle.storeys.specs.Building.{buildingFault}
 use Rattle.walk.proofs.Fn.{Plain}
 use Rattle.walk.proofs.Slice.{R, taken, made}
@@ -30,7 +30,7 @@ abbrev pub put-members : Plain {n = 2} (pMutS bytes 0 tt ∷ pNum w64 ∷ pNum w
 put-members = record {
   requires = λ κs a.
       ((knowledge (a .1 .1 .0) ≡ true)
-      × (membersFault (a .1 .1 .1 .1 .0 .now) ≡ 0)
+      × (memberRowsFault (a .1 .1 .1 .1 .0 .now) ≡ 0)
       × (a .1 .0 + 86 * length (a .1 .1 .1 .1 .0 .now) ≤ length (a .0 .now)))
       ∷ [];
   ensures = λ κs a z e.

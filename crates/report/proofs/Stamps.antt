@@ -11,7 +11,7 @@ use lib.Seq.{drop-cons, set-append-seam, append-snoc}
 use Rattle.reading.specs.Spelling.{spelled}
 use Rattle.reading.proofs.Typed.{length-spelled}
 use borrow.Author.Tests.{le-leb, lt-leb}
-use Rattle.report.specs.Line.{fields, line, stamped, atFront, putLength}
+use Rattle.report.specs.Line.{printedNumbers, line, stamped, atFront, putLength}
 
 pub length-stamped : (xs bytes : List ℕ) (at : ℕ) → length (stamped bytes at xs) ≡ length bytes
 unfolding stamped
@@ -81,30 +81,30 @@ text-next out before text at i v e h q =
 pub text-end : (out before text : List ℕ) (at i p : ℕ) → stamped out p (drop i text) ≡ stamped before at text → length text ≤ i → out ≡ stamped before at text
 text-end out before text at i p e h = sym (stamped-none out p) ∙ (rw (drop-of-length-le text h) at e)
 
-pub length-fields : (ns : List ℕ) → length (fields ns) ≡ 12 * length ns
-unfolding fields
-length-fields [] = refl
-length-fields (n ∷ ns) = omega (arith, length-append (spelled 12 32 n) (fields ns), length-spelled 12 32 n, length-fields ns)
+pub length-printed-numbers : (ns : List ℕ) → length (printedNumbers ns) ≡ 12 * length ns
+unfolding printedNumbers
+length-printed-numbers [] = refl
+length-printed-numbers (n ∷ ns) = omega (arith, length-append (spelled 12 32 n) (printedNumbers ns), length-spelled 12 32 n, length-printed-numbers ns)
 
 pub length-line : (tag ns : List ℕ) → length (line tag ns) ≡ length tag + (12 * length ns + 1)
 unfolding line
-length-line tag ns = omega (arith, length-append tag (fields ns ++ (10 ∷ [])), length-append (fields ns) (10 ∷ []), length-fields ns)
+length-line tag ns = omega (arith, length-append tag (printedNumbers ns ++ (10 ∷ [])), length-append (printedNumbers ns) (10 ∷ []), length-printed-numbers ns)
 
 -- the fields of a line, one by one
-pub fields-next : (out before turned ns : List ℕ) (p next i : ℕ) → stamped out p (fields (drop i ns)) ≡ before → i < length ns → turned ≡ stamped out p (spelled 12 32 (getD ns i 0)) → next ≡ p + 12 → stamped turned next (fields (drop (i + 1) ns)) ≡ before
-unfolding fields
-fields-next out before turned ns p next i e h q l =
-    rw (q, stamped-both (spelled 12 32 (getD ns i 0)) (fields (drop (i + 1) ns)) out p next (omega (arith, length-spelled 12 32 (getD ns i 0))), add-one i)
+pub printed-numbers-next : (out before turned ns : List ℕ) (p next i : ℕ) → stamped out p (printedNumbers (drop i ns)) ≡ before → i < length ns → turned ≡ stamped out p (spelled 12 32 (getD ns i 0)) → next ≡ p + 12 → stamped turned next (printedNumbers (drop (i + 1) ns)) ≡ before
+unfolding printedNumbers
+printed-numbers-next out before turned ns p next i e h q l =
+    rw (q, stamped-both (spelled 12 32 (getD ns i 0)) (printedNumbers (drop (i + 1) ns)) out p next (omega (arith, length-spelled 12 32 (getD ns i 0))), add-one i)
     (rw (drop-cons ns i 0 h) at e)
 
-pub fields-end : (out before ns : List ℕ) (p i : ℕ) → stamped out p (fields (drop i ns)) ≡ before → length ns ≤ i → out ≡ before
-unfolding fields
-fields-end out before ns p i e h = sym (stamped-none out p) ∙ (rw (drop-of-length-le ns h) at e)
+pub printed-numbers-end : (out before ns : List ℕ) (p i : ℕ) → stamped out p (printedNumbers (drop i ns)) ≡ before → length ns ≤ i → out ≡ before
+unfolding printedNumbers
+printed-numbers-end out before ns p i e h = sym (stamped-none out p) ∙ (rw (drop-of-length-le ns h) at e)
 
 -- tag, fields and LF are a line
-pub line-done : (bytes tagged filled ended tag ns lf : List ℕ) (at p q : ℕ) → tagged ≡ stamped bytes at tag → p ≡ at + length tag → filled ≡ stamped tagged p (fields ns) → q ≡ p + 12 * length ns → ended ≡ stamped filled q lf → lf ≡ 10 ∷ [] → ended ≡ stamped bytes at (line tag ns)
+pub line-done : (bytes tagged filled ended tag ns lf : List ℕ) (at p q : ℕ) → tagged ≡ stamped bytes at tag → p ≡ at + length tag → filled ≡ stamped tagged p (printedNumbers ns) → q ≡ p + 12 * length ns → ended ≡ stamped filled q lf → lf ≡ 10 ∷ [] → ended ≡ stamped bytes at (line tag ns)
 unfolding line
 line-done bytes tagged filled ended tag ns lf at p q a b c d e f =
     e
-    ∙ rw (c, a, f, stamped-both tag (fields ns) bytes at p b)
-    (stamped-both (tag ++ fields ns) (10 ∷ []) bytes at q (omega (arith, length-append tag (fields ns), length-fields ns, b, d)) ∙ rw append-assoc)
+    ∙ rw (c, a, f, stamped-both tag (printedNumbers ns) bytes at p b)
+    (stamped-both (tag ++ printedNumbers ns) (10 ∷ []) bytes at q (omega (arith, length-append tag (printedNumbers ns), length-printed-numbers ns, b, d)) ∙ rw append-assoc)

@@ -19,8 +19,8 @@ use Rattle.reading.proofs.Below.{and-right, every-at}
 use Rattle.reading.proofs.Files.{count-most}
 use Rattle.reading.proofs.Validity.{clear}
 use Rattle.storeys.specs.Totals.{total}
-use Rattle.storeys.specs.Storey.{publishedRules, countFault, knowledgeFault, membersFault, storeyCallFault}
-use Rattle.storeys.specs.Building.{storeyAt, membersBefore, membersOf, countsFault, storeyRowsFault, shearFaultAt, buildingFault}
+use Rattle.storeys.specs.Storey.{publishedRules, countFault, knowledgeFault, memberRowsFault, storeyCallFault}
+use Rattle.storeys.specs.Building.{storeyIn, membersBefore, membersOf, countsFault, storeyRowsFault, shearFaultAt, buildingFault}
 use Rattle.storeys.proofs.Refusals.{None, end, also, one, rest, in-order-clear, in-order-none, first-clear, count-clear}
 use Rattle.storeys.proofs.Accepted.{before-next, members-counted, known-level}
 use Rattle.storeys.proofs.BuildingRows.{next-within, part-is}
@@ -62,10 +62,10 @@ module _ (h : Header) (ss : List Storey) (ms : List Member) (none : buildingFaul
   pub before-end : membersBefore ss (length ss) ≡ length ms
   before-end = before-all ss ∙ counted
 
-  pub part-length : (i : ℕ) → length (membersOf ss ms i) ≡ storeyAt ss i .count
+  pub part-length : (i : ℕ) → length (membersOf ss ms i) ≡ storeyIn ss i .count
   part-length i = sym (members-counted ss ms i counted)
 
-  rows : (i : ℕ) → i < length ss → None (storeyFault (storeyAt ss i) ∷ repeated (λ e. storeyAt ss e .number) i ∷ membersFault (membersOf ss ms i) ∷ [])
+  rows : (i : ℕ) → i < length ss → None (storeyFault (storeyIn ss i) ∷ repeated (λ e. storeyIn ss e .number) i ∷ memberRowsFault (membersOf ss ms i) ∷ [])
   unfolding storeyRowsFault
   rows i l = in-order-clear _ (first-clear (storeyRowsFault ss ms) (length ss) (one (rest (rest checks))) i l)
 
@@ -75,11 +75,11 @@ module _ (h : Header) (ss : List Storey) (ms : List Member) (none : buildingFaul
   level-none : knowledgeFault (h .knowledge) ≡ 0
   level-none = simp (known-level publishedRules h ss ms none)
 
-  pub storey-clear : (i : ℕ) → i < length ss → storeyCallFault publishedRules (h .knowledge) (storeyAt ss i) (membersOf ss ms i) ≡ 0
+  pub storey-clear : (i : ℕ) → i < length ss → storeyCallFault publishedRules (h .knowledge) (storeyIn ss i) (membersOf ss ms i) ≡ 0
   unfolding storeyCallFault shearFaultAt
   storey-clear i l =
       in-order-none
-      (also (count-none (storeyAt ss i .count) (length (membersOf ss ms i)) (sym (part-length i)))
+      (also (count-none (storeyIn ss i .count) (length (membersOf ss ms i)) (sym (part-length i)))
       (also level-none
       (also (one (rows i l))
       (also (one (rest (rest (rows i l))))
@@ -89,14 +89,14 @@ module _ (h : Header) (ss : List Storey) (ms : List Member) (none : buildingFaul
   before-most : (i : ℕ) → i ≤ length ss → membersBefore ss i ≤ 200 * i
   unfolding membersBefore
   before-most zero l = omega arith
-  before-most (suc i) l = omega (arith, before-most i (omega arith), count-most (storeyAt ss i) (one (rows i (omega arith))))
+  before-most (suc i) l = omega (arith, before-most i (omega arith), count-most (storeyIn ss i) (one (rows i (omega arith))))
 
   pub members-most : length ms ≤ 2_000
   members-most = omega (arith, before-end, before-most (length ss) (omega arith), storeys-most)
 
   -- the rows from `a` on, as many as the storey counts
-  module _ (k i a n : ℕ) (level : k ≡ h .knowledge) (l : i < length ss) (before : a ≡ membersBefore ss i) (count : n ≡ storeyAt ss i .count) where
-    pub part-clear : storeyCallFault publishedRules k (storeyAt ss i) (take ((a + n) - a) (drop a ms)) ≡ 0
+  module _ (k i a n : ℕ) (level : k ≡ h .knowledge) (l : i < length ss) (before : a ≡ membersBefore ss i) (count : n ≡ storeyIn ss i .count) where
+    pub part-clear : storeyCallFault publishedRules k (storeyIn ss i) (take ((a + n) - a) (drop a ms)) ≡ 0
     part-clear = rw (part-is ss ms i a n before count, level) (storey-clear i l)
 
     pub part-size : length (take ((a + n) - a) (drop a ms)) ≡ n
@@ -113,12 +113,12 @@ module _ (h : Header) (ss : List Storey) (ms : List Member) (none : buildingFaul
 
 -- ---- the storeys, one by one
 module _ (k : ℕ) (ss : List Storey) (ms : List Member) where
-  pub storeys-next : (out before turned : List ℕ) (p next i : ℕ) → stamped out p (storeysLines k ss ms i (length ss - i)) ≡ before → i < length ss → turned ≡ stamped out p (storeyLines k (storeyAt ss i) (membersOf ss ms i)) → next ≡ p + (86 * length (membersOf ss ms i) + 74) → stamped turned next (storeysLines k ss ms (i + 1) (length ss - (i + 1))) ≡ before
+  pub storeys-next : (out before turned : List ℕ) (p next i : ℕ) → stamped out p (storeysLines k ss ms i (length ss - i)) ≡ before → i < length ss → turned ≡ stamped out p (storeyLines k (storeyIn ss i) (membersOf ss ms i)) → next ≡ p + (86 * length (membersOf ss ms i) + 74) → stamped turned next (storeysLines k ss ms (i + 1) (length ss - (i + 1))) ≡ before
   unfolding storeysLines
   storeys-next out before turned p next i e l q n =
-      let b = storeyLines k (storeyAt ss i) (membersOf ss ms i) in
+      let b = storeyLines k (storeyIn ss i) (membersOf ss ms i) in
       let c : length ss - i ≡ suc (length ss - (i + 1)) = omega arith in
-      rw (q, stamped-both b (storeysLines k ss ms (i + 1) (length ss - (i + 1))) out p next (omega (arith, n, length-storey-lines k (storeyAt ss i) (membersOf ss ms i))), add-one i)
+      rw (q, stamped-both b (storeysLines k ss ms (i + 1) (length ss - (i + 1))) out p next (omega (arith, n, length-storey-lines k (storeyIn ss i) (membersOf ss ms i))), add-one i)
       (rw (c, add-one i) at e)
 
   pub storeys-end : (out before : List ℕ) (p i : ℕ) → stamped out p (storeysLines k ss ms i (length ss - i)) ≡ before → length ss ≤ i → out ≡ before

@@ -7,13 +7,13 @@ use Rattle.reading.specs.First.{pick}
 use Rattle.reading.specs.Spelling.{spelled}
 
 -- numbers in fields of 12 columns, one after another
-unfoldable pub fields : List ℕ → List ℕ
-fields [] = []
-fields (n ∷ ns) = spelled 12 32 n ++ fields ns
+unfoldable pub printedNumbers : List ℕ → List ℕ
+printedNumbers [] = []
+printedNumbers (n ∷ ns) = spelled 12 32 n ++ printedNumbers ns
 
 -- a line: its tag, its fields, LF
 unfoldable pub line : List ℕ → List ℕ → List ℕ
-line tag ns = tag ++ (fields ns ++ (10 ∷ []))
+line tag ns = tag ++ (printedNumbers ns ++ (10 ∷ []))
 
 -- the bytes with others in the place of those from `at` on
 unfoldable pub stamped : List ℕ → ℕ → List ℕ → List ℕ

@@ -15,7 +15,7 @@ use Rattle.members.specs.Class.{code}
 use Rattle.members.specs.Finding.{finding, flag, knowledge, Returned, refused}
 use Rattle.members.specs.declared.finding.Finding.{Finding}
 use Rattle.storeys.specs.Storey.{publishedRules, meetsWallShare, storeyFinding}
-use Rattle.storeys.specs.Building.{storeyAt, membersOf, tilted, buildingRisky, buildingFault}
+use Rattle.storeys.specs.Building.{storeyIn, membersOf, tilted, buildingRisky, buildingFault}
 use Rattle.storeys.specs.declared.StoreyFinding.{StoreyFinding}
 use Rattle.storeys.specs.declared.StoreyAnswer.{StoreyAnswer}
 use Rattle.storeys.specs.declared.StoreyAnswer.the-variants as storey-answer
@@ -26,8 +26,8 @@ use Rattle.report.specs.declared.ReportAnswer.the-variants.{Written, Ref
 use Rattle.report.specs.Line.{line}
 
 -- "number, class (1 to 3 columns A to C, 4 and 5 walls A and B), m, its limit, rotation, its limit, over (0 or 1)"
-abbrev pub memberValues : ℕ → Finding → List ℕ
-memberValues number f =
+abbrev pub memberColumns : ℕ → Finding → List ℕ
+memberColumns number f =
     number
     ∷ code (f .class)
     ∷ f .m .0
@@ -38,22 +38,22 @@ memberValues number f =
     ∷ []
 
 -- "number, Σ, c, P, W, Risky"
-abbrev pub storeyValues : ℕ → StoreyFinding → List ℕ
-storeyValues number f = number ∷ f .axial ∷ f .members ∷ f .over ∷ f .shear ∷ flag (f .risky) ∷ []
+abbrev pub storeyColumns : ℕ → StoreyFinding → List ℕ
+storeyColumns number f = number ∷ f .axial ∷ f .members ∷ f .over ∷ f .shear ∷ flag (f .risky) ∷ []
 
 -- "tilt above 25,000, Risky"
-abbrev pub buildingValues : Bool → Bool → List ℕ
-buildingValues tilt risky = flag tilt ∷ flag risky ∷ []
+abbrev pub buildingColumns : Bool → Bool → List ℕ
+buildingColumns tilt risky = flag tilt ∷ flag risky ∷ []
 
 -- the lines, tagged `M` (byte 77), `S` (83) and `B` (66)
 unfoldable pub memberLine : ℕ → Finding → List ℕ
-memberLine number f = line (77 ∷ []) (memberValues number f)
+memberLine number f = line (77 ∷ []) (memberColumns number f)
 
 unfoldable pub storeyLine : ℕ → StoreyFinding → List ℕ
-storeyLine number f = line (83 ∷ []) (storeyValues number f)
+storeyLine number f = line (83 ∷ []) (storeyColumns number f)
 
 unfoldable pub buildingLine : Bool → Bool → List ℕ
-buildingLine tilt risky = line (66 ∷ []) (buildingValues tilt risky)
+buildingLine tilt risky = line (66 ∷ []) (buildingColumns tilt risky)
 
 -- "one line `E` with refusal and line": tagged `E` (69)
 unfoldable pub refusalLine : ℕ → ℕ → List ℕ
@@ -72,7 +72,7 @@ storeyLines k s ms =
 -- the lines of n storeys from storey i on
 unfoldable pub storeysLines : ℕ → List Storey → List Member → ℕ → ℕ → List ℕ
 storeysLines k ss ms i zero = []
-storeysLines k ss ms i (suc n) = storeyLines k (storeyAt ss i) (membersOf ss ms i) ++ storeysLines k ss ms (suc i) n
+storeysLines k ss ms i (suc n) = storeyLines k (storeyIn ss i) (membersOf ss ms i) ++ storeysLines k ss ms (suc i) n
 
 -- the printed sheet: the storeys, "Last `B`"
 unfoldable pub sheet : Header → List Storey → List Member → List ℕ
@@ -110,7 +110,7 @@ bufferAfter h ss ms before =
 
 -- a member that is printed: k one of the two levels, the record good
 pub record Printed (k : ℕ) (m : Member) : Type 0 where
-  pub level : knowledge k ≡ true
+  pub knowledge-level : knowledge k ≡ true
   pub good : memberFault m ≡ 0
 
 -- the finding in an answer on a storey; a refusal has none

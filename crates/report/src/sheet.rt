@@ -4,7 +4,7 @@ ghost use mathlib.Core.Bool.{true};
 ghost use Prim.Native.Nat.{_+_, _*_, _≤_};
 ghost use lib.ListN.{length};
 ghost use Rattle.members.specs.Finding.{knowledge};
-ghost use Rattle.storeys.specs.Storey.{publishedRules, membersFault, storeyCallFault};
+ghost use Rattle.storeys.specs.Storey.{publishedRules, memberRowsFault, storeyCallFault};
 ghost use Rattle.storeys.specs.Building.{buildingFault};
 ghost use Rattle.report.specs.Line.{stamped};
 ghost use Rattle.report.specs.Sheet.{memberLines, storeyLines, storeysLines, reportAnswer, returnedReport, reportReturned, bufferAfter};
@@ -27,7 +27,7 @@ use storeys::verdict::level_of;
 
 // The lines of some good members, judged with k and the 0.40 condition of their storey.
 fn put_members(out: &mut [u8], at: usize, k: u64, met: bool, rows: &[Member]) -> usize
-    requires { ⌜ (knowledge k ≡ true) × (membersFault (now rows) ≡ 0) × (at + 86 * length (now rows) ≤ length (now out)) ⌝ }
+    requires { ⌜ (knowledge k ≡ true) × (memberRowsFault (now rows) ≡ 0) × (at + 86 * length (now rows) ≤ length (now out)) ⌝ }
     ensures { λ r. ⌜ r ≡ at + 86 * length (now (rows .entry)) ⌝ }
     ensures { λ _. ⌜ now (out .exit) ≡ stamped (now (out .entry)) at (memberLines k met (now (rows .entry))) ⌝ }
 {

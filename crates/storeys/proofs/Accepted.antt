@@ -22,9 +22,9 @@ use Rattle.storeys.specs.declared.BuildingFinding.{BuildingFinding}
 use Rattle.storeys.specs.declared.BuildingAnswer.{BuildingAnswer}
 use Rattle.storeys.specs.declared.BuildingAnswer.the-variants.{Judged, Refused}
 use Rattle.storeys.specs.Totals.{total}
-use Rattle.storeys.specs.Storey.{Rules, meetsWallShare, over, overShear, storeyRisky, storeyFinding, countFault, knowledgeFault, shearFault, noMember, memberAt, rowFault, membersFault, storeyCallFault, storeyAnswerBy}
-use Rattle.storeys.specs.Building.{storeyAt, membersBefore, membersOf, countsFault, storeyRowsFault, shearFaultAt, buildingFault, buildingRisky, buildingFinding, buildingAnswerBy, placeIn, returnedBuilding}
-use Rattle.storeys.specs.Demand3.{Survey, level, Floor, floorAt, floors, Accepted, overIn, riskyIn, buildingRiskyIn}
+use Rattle.storeys.specs.Storey.{Rules, meetsWallShare, over, overShear, storeyRisky, storeyFinding, countFault, knowledgeFault, shearFault, noMember, memberIn, rowFault, memberRowsFault, storeyCallFault, storeyAnswerBy}
+use Rattle.storeys.specs.Building.{storeyIn, membersBefore, membersOf, countsFault, storeyRowsFault, shearFaultAt, buildingFault, buildingRisky, buildingFinding, buildingAnswerBy, placeIn, returnedBuilding}
+use Rattle.storeys.specs.Demand3.{Survey, knowledgeOf, StoreyMembers, storeyMembersAt, storeysMembers, Accepted, overIn, riskyIn, buildingRiskyIn}
 use Rattle.storeys.proofs.Pairs.{All}
 use Rattle.storeys.proofs.Tests.{never}
 use Rattle.storeys.proofs.Refusals.{None, end, also, one, rest, in-order-clear, in-order-none, first-clear, count-clear, all-rows, all-listed}
@@ -46,18 +46,18 @@ before-within [] i = rw (before-none i) (omega arith)
 before-within (s ∷ ss) zero = omega arith
 before-within (s ∷ ss) (suc i) = omega (arith, before-next s ss i, before-within ss i)
 
-pub members-counted : (ss : List Storey) (ms : List Member) (i : ℕ) → total (λ s. s .count) ss ≡ length ms → storeyAt ss i .count ≡ length (membersOf ss ms i)
+pub members-counted : (ss : List Storey) (ms : List Member) (i : ℕ) → total (λ s. s .count) ss ≡ length ms → storeyIn ss i .count ≡ length (membersOf ss ms i)
 unfolding membersOf membersBefore
 members-counted ss ms i e =
     let b = membersBefore ss i in
-    omega (arith, e, length-take (storeyAt ss i .count) (drop b ms), length-drop b ms, before-within ss (suc i))
+    omega (arith, e, length-take (storeyIn ss i .count) (drop b ms), length-drop b ms, before-within ss (suc i))
 
 -- a storey on which the call refuses nothing
-pub record Sound (rules : Rules) (k : ℕ) (f : Floor) : Type 0 where
+pub record Sound (rules : Rules) (k : ℕ) (f : StoreyMembers) : Type 0 where
   pub known : knowledge k ≡ true
   pub count : f .storey .count ≡ length (f .members)
   pub storey : storeyFault (f .storey) ≡ 0
-  pub members : membersFault (f .members) ≡ 0
+  pub members : memberRowsFault (f .members) ≡ 0
   pub shear : shearFault (overShear rules k (meetsWallShare (f .storey .shear) (f .members)) (f .members)) ≡ 0
 
 -- k is one of the two levels
@@ -88,11 +88,11 @@ module _ (rules : Rules) (h : Header) (ss : List Storey) (ms : List Member) (non
   pub known-level : knowledge (h .knowledge) ≡ true
   known-level = header-known h (one (rest checks))
 
-  rows : (i : ℕ) → i < length ss → None (storeyFault (storeyAt ss i) ∷ repeated (λ j. storeyAt ss j .number) i ∷ membersFault (membersOf ss ms i) ∷ [])
+  rows : (i : ℕ) → i < length ss → None (storeyFault (storeyIn ss i) ∷ repeated (λ j. storeyIn ss j .number) i ∷ memberRowsFault (membersOf ss ms i) ∷ [])
   unfolding storeyRowsFault
   rows i l = in-order-clear _ (first-clear (storeyRowsFault ss ms) (length ss) (one (rest (rest checks))) i l)
 
-  sound-at : (i : ℕ) → i < length ss → Sound rules (h .knowledge) (record { storey = storeyAt ss i; members = membersOf ss ms i })
+  sound-at : (i : ℕ) → i < length ss → Sound rules (h .knowledge) (record { storey = storeyIn ss i; members = membersOf ss ms i })
   unfolding shearFaultAt
   sound-at i l =
       record {
@@ -114,12 +114,12 @@ storey-members s e =
     let c = every-at (inRange S (storeyValues s)) 3 2 (clear (every (inRange S (storeyValues s)) 3) 0 3 e (omega arith) .0) (omega arith) in
     leb-true 1 (s .count) (and-left _ _ c)
 
-module _ (rules : Rules) (k : ℕ) (f : Floor) (sound : Sound rules k f) where
+module _ (rules : Rules) (k : ℕ) (f : StoreyMembers) (sound : Sound rules k f) where
   pub has-members : 0 < length (f .members)
   has-members = omega (arith, sound .count, storey-members (f .storey) (sound .storey))
 
-  row : (j : ℕ) → j < length (f .members) → None (memberFault (memberAt (f .members) j) ∷ repeated (λ e. memberAt (f .members) e .number) j ∷ [])
-  unfolding membersFault rowFault
+  row : (j : ℕ) → j < length (f .members) → None (memberFault (memberIn (f .members) j) ∷ repeated (λ e. memberIn (f .members) e .number) j ∷ [])
+  unfolding memberRowsFault rowFault
   row j l = in-order-clear _ (first-clear (rowFault (f .members)) (length (f .members)) (sound .members) j l)
 
   pub good-members : All (λ m. memberFault m ≡ 0) (f .members)
@@ -156,9 +156,9 @@ module _ (rules : Rules) (a : Survey) (r : BuildingAnswer) (acc : Accepted rules
   pub verdict-found : buildingRiskyIn r ≡ buildingRisky rules (a .header) (a .storeys) (a .members)
   verdict-found = ap buildingRiskyIn (acc .answers .same) ∙ verdict-at rules (a .header) (a .storeys) (a .members) building-clear (placeIn r)
 
-  pub level-known : knowledge (level a) ≡ true
+  pub level-known : knowledge (knowledgeOf a) ≡ true
   level-known = known-level rules (a .header) (a .storeys) (a .members) building-clear
 
-  pub sound-floors : All (Sound rules (level a)) (floors a)
-  sound-floors =
-      all-listed (Sound rules (level a)) (floorAt a) (length (a .storeys)) (sound-at rules (a .header) (a .storeys) (a .members) building-clear)
+  pub sound-storeys : All (Sound rules (knowledgeOf a)) (storeysMembers a)
+  sound-storeys =
+      all-listed (Sound rules (knowledgeOf a)) (storeyMembersAt a) (length (a .storeys)) (sound-at rules (a .header) (a .storeys) (a .members) building-clear)

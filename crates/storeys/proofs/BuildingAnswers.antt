@@ -135,7 +135,7 @@ module _ (h : Header) (ss : List Storey) (ms : List Member) where
 
         module _ (y : f ≡ 0) (k : ℕ) (l : k ≡ h .knowledge) where
           pub good-rows : GoodRows k ss ms
-          good-rows = record { level = rw l (header-known h (one (rest (rest clear-first)))); counted = counted; good = sym q ∙ y }
+          good-rows = record { knowledge-level = rw l (header-known h (one (rest (rest clear-first)))); counted = counted; good = sym q ∙ y }
 
           pub judged-rows : (v : Verdict) (x : BuildingAnswer) → v ≡ verdictOf k ss ms (length ss) → x ≡ verdictAnswer h v → Told h ss ms x
           unfolding verdictOf

@@ -20,9 +20,9 @@ use Rattle.members.specs.Finding.{knowledge}
 use Rattle.storeys.specs.declared.StoreyFinding.{StoreyFinding}
 use Rattle.storeys.specs.declared.verdict.Verdict.{Verdict}
 use Rattle.storeys.specs.Totals.{total}
-use Rattle.storeys.specs.Storey.{publishedRules, membersFault, storeyFinding}
+use Rattle.storeys.specs.Storey.{publishedRules, memberRowsFault, storeyFinding}
 use Rattle.storeys.specs.Tally.{Rows}
-use Rattle.storeys.specs.Building.{storeyAt, membersBefore, membersOf, riskyAt, storeyRowsFault, shearFaultAt}
+use Rattle.storeys.specs.Building.{storeyIn, membersBefore, membersOf, riskyAt, storeyRowsFault, shearFaultAt}
 use Rattle.storeys.specs.Verdict.{noVerdict, notedBy, placeAt, verdictOf, Counted, GoodRows}
 use Rattle.storeys.proofs.Refusals.{None, one, rest, in-order-clear, first-clear}
 use Rattle.storeys.proofs.Accepted.{before-within, before-next, members-counted}
@@ -38,7 +38,7 @@ before-none : (ss : List Storey) → membersBefore ss 0 ≡ 0
 unfolding membersBefore
 before-none ss = refl
 
-before-suc : (ss : List Storey) (i : ℕ) → membersBefore ss (i + 1) ≡ membersBefore ss i + storeyAt ss i .count
+before-suc : (ss : List Storey) (i : ℕ) → membersBefore ss (i + 1) ≡ membersBefore ss i + storeyIn ss i .count
 unfolding membersBefore
 before-suc ss i = rw add-one
 
@@ -53,10 +53,10 @@ module _ (ss : List Storey) (rows : ℕ) where
   left-all = omega (arith, before-none ss)
 
   module _ (left i c : ℕ) (e : left + membersBefore ss i ≡ rows) where
-    pub left-next : c ≡ storeyAt ss i .count → c ≤ left → (left - c) + membersBefore ss (i + 1) ≡ rows
+    pub left-next : c ≡ storeyIn ss i .count → c ≤ left → (left - c) + membersBefore ss (i + 1) ≡ rows
     left-next g l = omega (arith, before-suc ss i, e, g)
 
-    pub too-few : c ≡ storeyAt ss i .count → left < c → false ≡ eqb (counts ss) rows
+    pub too-few : c ≡ storeyIn ss i .count → left < c → false ≡ eqb (counts ss) rows
     too-few g l = sym (ne-eqb (counts ss) rows (λ q. let z : ⊥ = omega (arith, before-suc ss i, before-within ss (i + 1), e, g, q) in absurd z))
 
   fits-by : (t : Bool) (left : ℕ) → left + counts ss ≡ rows → eqb left 0 ≡ t → t ≡ eqb (counts ss) rows
@@ -72,22 +72,22 @@ module _ (ss : List Storey) (rows : ℕ) where
 -- ---- the numbers of the storeys before one
 module _ (ss : List Storey) (n v : ℕ) where
   abbrev has : ℕ → Bool
-  has e = eqb (storeyAt ss e .number) v
+  has e = eqb (storeyIn ss e .number) v
 
   pub repeat-none : any has 0 ≡ false
   repeat-none = any-none has
 
-  pub repeat-next : (e x : ℕ) → x ≡ storeyAt ss e .number → any has e ≡ false → eqb x v ≡ false → any has (e + 1) ≡ false
+  pub repeat-next : (e x : ℕ) → x ≡ storeyIn ss e .number → any has e ≡ false → eqb x v ≡ false → any has (e + 1) ≡ false
   repeat-next e x g a f = any-more has e a (rw (← g) f)
 
-  pub repeat-found : (e x : ℕ) → x ≡ storeyAt ss e .number → e < n → eqb x v ≡ true → _≡_ {A = ℕ} 5 (pick (any has n) 5 0)
+  pub repeat-found : (e x : ℕ) → x ≡ storeyIn ss e .number → e < n → eqb x v ≡ true → _≡_ {A = ℕ} 5 (pick (any has n) 5 0)
   repeat-found e x g h f = let k : has e ≡ true = rw (← g) f in rw (any-holds has n e h k)
 
   pub repeat-all : (e : ℕ) → any has e ≡ false → e ≤ n → n ≤ e → _≡_ {A = ℕ} 0 (pick (any has n) 5 0)
   repeat-all e a h g = let q : e ≡ n = omega arith in let k : any has n ≡ false = rw (← q) a in rw k
 
 -- ---- the members of a storey among the rows
-module _ (ss : List Storey) (ms : List Member) (i before c : ℕ) (e : before ≡ membersBefore ss i) (g : c ≡ storeyAt ss i .count) where
+module _ (ss : List Storey) (ms : List Member) (i before c : ℕ) (e : before ≡ membersBefore ss i) (g : c ≡ storeyIn ss i .count) where
   pub next-before : before + c ≡ membersBefore ss (i + 1)
   next-before = omega (arith, before-suc ss i, e, g)
 
@@ -115,24 +115,24 @@ module _ (ss : List Storey) (ms : List Member) where
       let f : refusal (i + 1) ≡ r = k ∙ sym g in
       sym (first-kept 0 (λ n. n) (storeyRowsFault ss ms) (i + 1) (length ss) (omega arith) (λ q. ne (sym f ∙ q)) ∙ f)
 
-  module _ (i own x rep : ℕ) (s : Storey) (e : refusal i ≡ 0) (h : i < length ss) (d : s ≡ storeyAt ss i) (y : x ≡ s .number)
-      (z : rep ≡ pick (any (λ (j : ℕ). eqb (storeyAt ss j .number) x) i) 5 0) (o : own ≡ inOrder (storeyFault s ∷ rep ∷ [])) where
-    own-is : own ≡ inOrder (storeyFault (storeyAt ss i) ∷ repeated (λ j. storeyAt ss j .number) i ∷ [])
+  module _ (i own x rep : ℕ) (s : Storey) (e : refusal i ≡ 0) (h : i < length ss) (d : s ≡ storeyIn ss i) (y : x ≡ s .number)
+      (z : rep ≡ pick (any (λ (j : ℕ). eqb (storeyIn ss j .number) x) i) 5 0) (o : own ≡ inOrder (storeyFault s ∷ rep ∷ [])) where
+    own-is : own ≡ inOrder (storeyFault (storeyIn ss i) ∷ repeated (λ j. storeyIn ss j .number) i ∷ [])
     own-is = o ∙ rw (z, y, d)
 
-    row-is : storeyRowsFault ss ms i ≡ pick (eqb own 0) (membersFault (membersOf ss ms i)) own
+    row-is : storeyRowsFault ss ms i ≡ pick (eqb own 0) (memberRowsFault (membersOf ss ms i)) own
     unfolding storeyRowsFault
-    row-is = in-order-last (storeyFault (storeyAt ss i) ∷ repeated (λ j. storeyAt ss j .number) i ∷ []) (membersFault (membersOf ss ms i)) ∙ rw (← own-is)
+    row-is = in-order-last (storeyFault (storeyIn ss i) ∷ repeated (λ j. storeyIn ss j .number) i ∷ []) (memberRowsFault (membersOf ss ms i)) ∙ rw (← own-is)
 
     pub own-refused : (own ≡ 0 → ⊥) → own ≡ refusal (length ss)
-    own-refused ne = stops i own e h (sym (row-is ∙ pick-other own (membersFault (membersOf ss ms i)) ne)) ne
+    own-refused ne = stops i own e h (sym (row-is ∙ pick-other own (memberRowsFault (membersOf ss ms i)) ne)) ne
 
     module _ (n : own ≡ 0) (before c fault : ℕ) (b : before ≡ membersBefore ss i) (g : c ≡ s .count)
-        (f : fault ≡ membersFault (take ((before + c) - before) (drop before ms))) where
+        (f : fault ≡ memberRowsFault (take ((before + c) - before) (drop before ms))) where
       fault-is : fault ≡ storeyRowsFault ss ms i
       fault-is =
-          f ∙ ap membersFault (part-is ss ms i before c b (g ∙ ap (λ (t : Storey). t .count) d))
-          ∙ sym (row-is ∙ pick-zero own (membersFault (membersOf ss ms i)) n)
+          f ∙ ap memberRowsFault (part-is ss ms i before c b (g ∙ ap (λ (t : Storey). t .count) d))
+          ∙ sym (row-is ∙ pick-zero own (memberRowsFault (membersOf ss ms i)) n)
 
       pub members-refused : (fault ≡ 0 → ⊥) → fault ≡ refusal (length ss)
       members-refused ne = stops i fault e h fault-is ne
@@ -149,12 +149,12 @@ module _ (k : ℕ) (ss : List Storey) (ms : List Member) where
   pub verdict-all : (v : Verdict) (i : ℕ) → v ≡ verdictOf k ss ms i → i ≤ length ss → length ss ≤ i → v ≡ verdictOf k ss ms (length ss)
   verdict-all v i e h g = let q : i ≡ length ss = omega arith in rw (← q) e
 
-  verdict-more : (i : ℕ) → notedBy (verdictOf k ss ms i) (i + 1) (storeyFinding publishedRules k (storeyAt ss i .shear) (membersOf ss ms i)) ≡ verdictOf k ss ms (i + 1)
+  verdict-more : (i : ℕ) → notedBy (verdictOf k ss ms i) (i + 1) (storeyFinding publishedRules k (storeyIn ss i .shear) (membersOf ss ms i)) ≡ verdictOf k ss ms (i + 1)
   unfolding verdictOf storeyFinding shearFaultAt placeAt riskyAt
   verdict-more i = rw (first-more 0 (λ r. r) (shearFaultAt publishedRules k ss ms) i, first-more 0 (λ r. r) (placeAt k ss ms) i)
 
-  module _ (good : GoodRows k ss ms) (i before c : ℕ) (s : Storey) (h : i < length ss) (d : s ≡ storeyAt ss i) (b : before ≡ membersBefore ss i) (g : c ≡ s .count) where
-    count-is : c ≡ storeyAt ss i .count
+  module _ (good : GoodRows k ss ms) (i before c : ℕ) (s : Storey) (h : i < length ss) (d : s ≡ storeyIn ss i) (b : before ≡ membersBefore ss i) (g : c ≡ s .count) where
+    count-is : c ≡ storeyIn ss i .count
     count-is = g ∙ ap (λ (t : Storey). t .count) d
 
     abbrev part : List Member
@@ -163,14 +163,14 @@ module _ (k : ℕ) (ss : List Storey) (ms : List Member) where
     pub judged-part : part ≡ membersOf ss ms i
     judged-part = part-is ss ms i before c b count-is
 
-    clear-row : None (storeyFault (storeyAt ss i) ∷ repeated (λ j. storeyAt ss j .number) i ∷ membersFault (membersOf ss ms i) ∷ [])
+    clear-row : None (storeyFault (storeyIn ss i) ∷ repeated (λ j. storeyIn ss j .number) i ∷ memberRowsFault (membersOf ss ms i) ∷ [])
     unfolding storeyRowsFault
     clear-row = in-order-clear _ (first-clear (storeyRowsFault ss ms) (length ss) (good .good) i h)
 
     pub found-due : Rows part × (knowledge k ≡ true) × (storeyFault s ≡ 0)
     found-due =
-        let n : length part ≡ storeyAt ss i .count = ap length judged-part ∙ sym (members-counted ss ms i (good .counted)) in
-        (record { good = rw judged-part (one (rest (rest clear-row))); most = omega (arith, n, count-most (storeyAt ss i) (one clear-row)) }, good .level, rw d (one clear-row))
+        let n : length part ≡ storeyIn ss i .count = ap length judged-part ∙ sym (members-counted ss ms i (good .counted)) in
+        (record { good = rw judged-part (one (rest (rest clear-row))); most = omega (arith, n, count-most (storeyIn ss i) (one clear-row)) }, good .knowledge-level, rw d (one clear-row))
 
     pub verdict-next : (v next : Verdict) (f : StoreyFinding) → v ≡ verdictOf k ss ms i → f ≡ storeyFinding publishedRules k (s .shear) part
         → next ≡ notedBy v (i + 1) f → next ≡ verdictOf k ss ms (i + 1)

@@ -23,7 +23,7 @@ use Rattle.storeys.specs.declared.StoreyAnswer.{StoreyAnswer}
 use Rattle.storeys.specs.declared.StoreyAnswer.the-variants.{Refused}
 use Rattle.storeys.specs.declared.row.Tally.{Tally}
 use Rattle.storeys.specs.Totals.{total}
-use Rattle.storeys.specs.Storey.{publishedRules, wallShear, meetsWallShare, axialTotal, over, shearIfOver, overShear, storeyRisky, riskyByDamage, storeyFinding, countFault, knowledgeFault, shearFault, memberAt, noMember, membersFault, storeyCallFault, storeyAnswerBy, storeyAnswer, returnedStorey, storeyReturned}
+use Rattle.storeys.specs.Storey.{publishedRules, wallShear, meetsWallShare, axialTotal, over, shearIfOver, overShear, storeyRisky, riskyByDamage, storeyFinding, countFault, knowledgeFault, shearFault, memberIn, noMember, memberRowsFault, storeyCallFault, storeyAnswerBy, storeyAnswer, returnedStorey, storeyReturned}
 use Rattle.storeys.specs.Tally.{tallyOf, Rows, Small, foundBy, headFault, judgedBy}
 use Rattle.storeys.proofs.Rows.{nd-most}
 use Rattle.storeys.proofs.Loops.{row-valid, pick-most}
@@ -47,7 +47,7 @@ total-most f d n (x ∷ xs) h =
 module _ (rows : List Member) (g : Rows rows) where
   pub walls-most : total wallShear rows ≤ 10_000_000_000
   walls-most =
-      omega (arith, g .most, total-most wallShear noMember 9_999_999 rows (λ j l. pick-most (isWall (memberAt rows j)) (memberAt rows j .case .shear) 9_999_999 (row-valid rows g j l .shear)))
+      omega (arith, g .most, total-most wallShear noMember 9_999_999 rows (λ j l. pick-most (isWall (memberIn rows j)) (memberIn rows j .case .shear) 9_999_999 (row-valid rows g j l .shear)))
 
   pub tally-small : (s : Storey) (k : ℕ) (met : Bool) (t : Tally) → storeyFault s ≡ 0 → t ≡ tallyOf k met rows → Small s (length rows) t
   unfolding tallyOf axialTotal overShear
@@ -56,9 +56,9 @@ module _ (rows : List Member) (g : Rows rows) where
       (record {
         shear = shear-most s e;
         rows-most = g .most;
-        axial = omega (arith, g .most, total-most (λ m. axialRatioD m .0) noMember 999_999 rows (λ j l. nd-most (memberAt rows j)));
+        axial = omega (arith, g .most, total-most (λ m. axialRatioD m .0) noMember 999_999 rows (λ j l. nd-most (memberIn rows j)));
         over =
-            omega (arith, g .most, total-most (shearIfOver publishedRules k met) noMember 9_999_999 rows (λ j l. pick-most (over publishedRules k met (memberAt rows j)) (memberAt rows j .case .shear) 9_999_999 (row-valid rows g j l .shear)));
+            omega (arith, g .most, total-most (shearIfOver publishedRules k met) noMember 9_999_999 rows (λ j l. pick-most (over publishedRules k met (memberIn rows j)) (memberIn rows j .case .shear) 9_999_999 (row-valid rows g j l .shear)));
       })
 
 -- the finding by the totals is the storey's
@@ -71,13 +71,13 @@ module _ (k : ℕ) (s : Storey) (rows : List Member) (first : ℕ) (h : first �
   abbrev p : ℕ
   p = overShear publishedRules k (meetsWallShare (s .shear) rows) rows
 
-  all-three : storeyCallFault publishedRules k s rows ≡ pick (eqb (pick (eqb first 0) (membersFault rows) first) 0) (shearFault p) (pick (eqb first 0) (membersFault rows) first)
+  all-three : storeyCallFault publishedRules k s rows ≡ pick (eqb (pick (eqb first 0) (memberRowsFault rows) first) 0) (shearFault p) (pick (eqb first 0) (memberRowsFault rows) first)
   unfolding storeyCallFault
   all-three =
-      in-order-last (countFault (s .count) (length rows) ∷ knowledgeFault k ∷ storeyFault s ∷ membersFault rows ∷ []) (shearFault p)
+      in-order-last (countFault (s .count) (length rows) ∷ knowledgeFault k ∷ storeyFault s ∷ memberRowsFault rows ∷ []) (shearFault p)
       ∙ ap (λ (x : ℕ). pick (eqb x 0) (shearFault p) x)
-      (in-order-last (countFault (s .count) (length rows) ∷ knowledgeFault k ∷ storeyFault s ∷ []) (membersFault rows)
-      ∙ ap (λ (x : ℕ). pick (eqb x 0) (membersFault rows) x) (sym h))
+      (in-order-last (countFault (s .count) (length rows) ∷ knowledgeFault k ∷ storeyFault s ∷ []) (memberRowsFault rows)
+      ∙ ap (λ (x : ℕ). pick (eqb x 0) (memberRowsFault rows) x) (sym h))
 
   refused-is : (n : ℕ) → storeyCallFault publishedRules k s rows ≡ n → (n ≡ 0 → ⊥) → Refused n ≡ storeyAnswer k s rows
   unfolding storeyAnswerBy
@@ -91,11 +91,11 @@ module _ (k : ℕ) (s : Storey) (rows : List Member) (first : ℕ) (h : first �
   both-refused n a e ne q = (q ∙ refused-is n e ne, ap returnedStorey q ∙ returned-is n e ne)
 
   pub head-refused : (a : StoreyAnswer) → (first ≡ 0 → ⊥) → a ≡ Refused first → (a ≡ storeyAnswer k s rows) × (returnedStorey a ≡ storeyReturned k s rows)
-  head-refused a ne q = both-refused first a (all-three ∙ rw (pick-other first (membersFault rows) ne) (pick-other first (shearFault p) ne)) ne q
+  head-refused a ne q = both-refused first a (all-three ∙ rw (pick-other first (memberRowsFault rows) ne) (pick-other first (shearFault p) ne)) ne q
 
-  module _ (z : first ≡ 0) (f : ℕ) (fp : f ≡ membersFault rows) where
+  module _ (z : first ≡ 0) (f : ℕ) (fp : f ≡ memberRowsFault rows) where
     after : storeyCallFault publishedRules k s rows ≡ pick (eqb f 0) (shearFault p) f
-    after = all-three ∙ rw (pick-zero first (membersFault rows) z, ← fp)
+    after = all-three ∙ rw (pick-zero first (memberRowsFault rows) z, ← fp)
 
     pub rows-refused : (a : StoreyAnswer) → (f ≡ 0 → ⊥) → a ≡ Refused f → (a ≡ storeyAnswer k s rows) × (returnedStorey a ≡ storeyReturned k s rows)
     rows-refused a ne q = both-refused f a (after ∙ pick-other f (shearFault p) ne) ne q

@@ -17,14 +17,14 @@ use Rattle.storeys.specs.Totals.{some}
 use Rattle.storeys.specs.Storey.{Rules, publishedRules, orderly, meetsWallShare, over, storeyRisky, storeyAnswerBy}
 use Rattle.storeys.specs.Building.{riskyAt, someRisky, buildingRisky, tiltAllowed, tilted}
 use Rattle.storeys.specs.Pairing.{EveryPair}
-use Rattle.storeys.specs.Demand3.{Survey, level, Floor, floorAt, floors, Accepted, overIn, riskyIn, Over, Risky, MemberPairs, StoreyPairs, Severer, SevererStorey, NowhereBetter, Carried, Demand3}
+use Rattle.storeys.specs.Demand3.{Survey, knowledgeOf, StoreyMembers, storeyMembersAt, storeysMembers, Accepted, overIn, riskyIn, Over, Risky, MemberPairs, StoreyPairs, Severer, SevererStorey, NowhereBetter, Carried, Demand3}
 use Rattle.storeys.proofs.Tests.{or-carried, excess-carried, at-equals}
 use Rattle.storeys.proofs.Pairs.{each, both, of-all, some-carried}
 use Rattle.storeys.proofs.Storeys.{Orderly, rules-ordered, Known, overs-carried, risky-carried}
-use Rattle.storeys.proofs.Accepted.{Sound, level-positive, has-members, good-members, risky-found, over-found, verdict-found, level-known, sound-floors}
+use Rattle.storeys.proofs.Accepted.{Sound, level-positive, has-members, good-members, risky-found, over-found, verdict-found, level-known, sound-storeys}
 
 -- two storeys that are partners, judged with the levels j and k
-module _ (rules : Rules) (good : Orderly rules) (j k : ℕ) (same : j ≡ k) (pos : 0 < j) (f g : Floor) (ms : MemberPairs (f .members) (g .members)) (sf : Sound rules j f) (sg : Sound rules k g) (worse : SevererStorey j f g ms) where
+module _ (rules : Rules) (good : Orderly rules) (j k : ℕ) (same : j ≡ k) (pos : 0 < j) (f g : StoreyMembers) (ms : MemberPairs (f .members) (g .members)) (sf : Sound rules j f) (sg : Sound rules k g) (worse : SevererStorey j f g ms) where
   shear-same : f .storey .shear ≡ g .storey .shear
   shear-same = omega (arith, worse .shear)
 
@@ -64,7 +64,7 @@ module _ (rules : Rules) (good : Orderly rules) (j k : ℕ) (same : j ≡ k) (po
   storey-carried : riskyIn (storeyAnswerBy rules j (f .storey) (f .members)) ≡ true → riskyIn (storeyAnswerBy rules k (g .storey) (g .members)) ≡ true
   storey-carried e = risky-found rules k g sg ∙ risky-kept (sym (risky-found rules j f sf) ∙ e)
 
--- some storey of a building is Risky: some of its floors is
+-- some storey of a building is Risky: one in the list of its storeys with their members is
 some-after : {A : Type 0} (p : A → Bool) (xs : List A) (x : A) → some p (xs ++ (x ∷ [])) ≡ (some p xs || p x)
 unfolding some
 some-after p [] x = or-false (p x)
@@ -75,13 +75,13 @@ unfolding some listed any
 some-listed p f zero = refl
 some-listed p f (suc n) = rw (some-after p (listed f n) (f n), some-listed p f n)
 
--- a floor's verdict
-abbrev verdict : Rules → ℕ → Floor → Bool
+-- the verdict of a storey with its members
+abbrev verdict : Rules → ℕ → StoreyMembers → Bool
 verdict rules k f = storeyRisky rules k (f .storey .shear) (f .members)
 
-some-floor : (rules : Rules) (a : Survey) → some (verdict rules (level a)) (floors a) ≡ someRisky rules (a .header) (a .storeys) (a .members)
+some-storey : (rules : Rules) (a : Survey) → some (verdict rules (knowledgeOf a)) (storeysMembers a) ≡ someRisky rules (a .header) (a .storeys) (a .members)
 unfolding someRisky riskyAt
-some-floor rules a = some-listed (verdict rules (level a)) (floorAt a) (length (a .storeys))
+some-storey rules a = some-listed (verdict rules (knowledgeOf a)) (storeyMembersAt a) (length (a .storeys))
 
 tilt-carried : (a b : Survey) → a .header .tilt1 ≤ b .header .tilt1 → a .header .tilt2 ≤ b .header .tilt2 → tilted (a .header) ≡ true → tilted (b .header) ≡ true
 unfolding tilted
@@ -89,30 +89,30 @@ tilt-carried a b h l =
     excess-carried tiltAllowed (max (a .header .tilt1) (a .header .tilt2)) tiltAllowed (max (b .header .tilt1) (b .header .tilt2)) (le-refl tiltAllowed) (omega (arith, h, l))
 
 module _ (rules : Rules) (good : Orderly rules) (a b : Survey) (r q : BuildingAnswer) (ra : Accepted rules a r) (rb : Accepted rules b q) (pairs : StoreyPairs a b) (worse : NowhereBetter a b pairs) where
-  same-level : level a ≡ level b
+  same-level : knowledgeOf a ≡ knowledgeOf b
   same-level = omega (arith, worse .knowledge)
 
-  positive : 0 < level a
-  positive = level-positive (level a) (level-known rules a r ra)
+  positive : 0 < knowledgeOf a
+  positive = level-positive (knowledgeOf a) (level-known rules a r ra)
 
-  abbrev Facts : (f g : Floor) → MemberPairs (f .members) (g .members) → Type 0
-  Facts f g ms = (Sound rules (level a) f × Sound rules (level b) g) × SevererStorey (level a) f g ms
+  abbrev Facts : (f g : StoreyMembers) → MemberPairs (f .members) (g .members) → Type 0
+  Facts f g ms = (Sound rules (knowledgeOf a) f × Sound rules (knowledgeOf b) g) × SevererStorey (knowledgeOf a) f g ms
 
   facts : EveryPair Facts pairs
   facts =
-      both (λ f g ms. Sound rules (level a) f × Sound rules (level b) g) (λ f g ms. SevererStorey (level a) f g ms) pairs
-      (of-all (Sound rules (level a)) (Sound rules (level b)) pairs (sound-floors rules a r ra) (sound-floors rules b q rb)) (worse .storeys)
+      both (λ f g ms. Sound rules (knowledgeOf a) f × Sound rules (knowledgeOf b) g) (λ f g ms. SevererStorey (knowledgeOf a) f g ms) pairs
+      (of-all (Sound rules (knowledgeOf a)) (Sound rules (knowledgeOf b)) pairs (sound-storeys rules a r ra) (sound-storeys rules b q rb)) (worse .storeys)
 
-  verdicts : EveryPair (λ f g ms. verdict rules (level a) f ≡ true → verdict rules (level b) g ≡ true) pairs
+  verdicts : EveryPair (λ f g ms. verdict rules (knowledgeOf a) f ≡ true → verdict rules (knowledgeOf b) g ≡ true) pairs
   verdicts =
-      each Facts (λ f g ms. verdict rules (level a) f ≡ true → verdict rules (level b) g ≡ true)
-      (λ f g ms h. risky-kept rules good (level a) (level b) same-level positive f g ms (h .0 .0) (h .0 .1) (h .1)) pairs facts
+      each Facts (λ f g ms. verdict rules (knowledgeOf a) f ≡ true → verdict rules (knowledgeOf b) g ≡ true)
+      (λ f g ms h. risky-kept rules good (knowledgeOf a) (knowledgeOf b) same-level positive f g ms (h .0 .0) (h .0 .1) (h .1)) pairs facts
 
   building-kept : buildingRisky rules (a .header) (a .storeys) (a .members) ≡ true → buildingRisky rules (b .header) (b .storeys) (b .members) ≡ true
   unfolding buildingRisky
   building-kept =
       or-carried _ _ _ _
-      (λ e. sym (some-floor rules b) ∙ some-carried (verdict rules (level a)) (verdict rules (level b)) pairs verdicts (some-floor rules a ∙ e))
+      (λ e. sym (some-storey rules b) ∙ some-carried (verdict rules (knowledgeOf a)) (verdict rules (knowledgeOf b)) pairs verdicts (some-storey rules a ∙ e))
       (tilt-carried a b (worse .tilt1) (worse .tilt2))
 
   carried : Carried rules a b r q pairs
@@ -120,10 +120,10 @@ module _ (rules : Rules) (good : Orderly rules) (a b : Survey) (r q : BuildingAn
       record {
         members =
             each Facts (λ f g ms. EveryPair (λ m n u. Over rules a f m → Over rules b g n) ms)
-            (λ f g ms h. members-carried rules good (level a) (level b) same-level positive f g ms (h .0 .0) (h .0 .1) (h .1)) pairs facts;
+            (λ f g ms h. members-carried rules good (knowledgeOf a) (knowledgeOf b) same-level positive f g ms (h .0 .0) (h .0 .1) (h .1)) pairs facts;
         storeys =
             each Facts (λ f g ms. Risky rules a f → Risky rules b g)
-            (λ f g ms h. storey-carried rules good (level a) (level b) same-level positive f g ms (h .0 .0) (h .0 .1) (h .1)) pairs facts;
+            (λ f g ms h. storey-carried rules good (knowledgeOf a) (knowledgeOf b) same-level positive f g ms (h .0 .0) (h .0 .1) (h .1)) pairs facts;
         building = λ e. verdict-found rules b q rb ∙ building-kept (sym (verdict-found rules a r ra) ∙ e);
       }
 

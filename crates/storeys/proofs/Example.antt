@@ -17,10 +17,10 @@ use Rattle.members.specs.Finding.{axial, moment, stress, hoops, mLimit, rotatio
 use Rattle.storeys.specs.declared.BuildingAnswer.{BuildingAnswer}
 use Rattle.storeys.specs.declared.BuildingAnswer.the-variants.{Judged}
 use Rattle.storeys.specs.Totals.{total, some}
-use Rattle.storeys.specs.Storey.{publishedRules, meetsWallShare, axialTotal, overShear, someOver, damaged, exceedsShare, riskyByDamage, storeyRisky, storeyFinding, noMember, rowFault, membersFault, storeyCallFault, storeyAnswerBy}
+use Rattle.storeys.specs.Storey.{publishedRules, meetsWallShare, axialTotal, overShear, someOver, damaged, exceedsShare, riskyByDamage, storeyRisky, storeyFinding, noMember, rowFault, memberRowsFault, storeyCallFault, storeyAnswerBy}
 use Rattle.storeys.specs.Building.{membersBefore, membersOf, riskyAt, countsFault, storeyRowsFault, shearFaultAt, buildingFault, tilted, someRisky, buildingRisky, buildingFinding, buildingAnswerBy, named}
 use Rattle.storeys.specs.Pairing.{none, pair, EveryPair}
-use Rattle.storeys.specs.Demand3.{Survey, floorAt, Accepted, Over, Risky, BuildingRisky, StoreyPairs, Severer, NowhereBetter, Carried}
+use Rattle.storeys.specs.Demand3.{Survey, storeyMembersAt, Accepted, Over, Risky, BuildingRisky, StoreyPairs, Severer, NowhereBetter, Carried}
 use Rattle.storeys.proofs.Tests.{never}
 use Rattle.storeys.proofs.Demand3.{demand3}
 
@@ -176,12 +176,12 @@ answerOther = Judged (record { tilted = false; risky = true; place = 1 })
 pub record Found : Type 0 where
   pub one-accepted : Accepted publishedRules one answerOne
   pub other-accepted : Accepted publishedRules other answerOther
-  pub column-over : Over publishedRules one (floorAt one 0) (member column)
-  pub storey-risky : Risky publishedRules one (floorAt one 1)
+  pub column-over : Over publishedRules one (storeyMembersAt one 0) (member column)
+  pub storey-risky : Risky publishedRules one (storeyMembersAt one 1)
   pub building-risky : BuildingRisky answerOne
 
 pub found : Found
-unfolding every any first headerFault storeyFault memberFault detailed columnClass wallClass classOf places moments rotations interp blend columnA columnB columnC wallRows wallB mLimitAt rotationLimitAt axial moment stress hoops mLimit rotationLimit mDropped isOver findingBy answerBy total some meetsWallShare axialTotal overShear someOver damaged exceedsShare riskyByDamage storeyRisky storeyFinding noMember rowFault membersFault storeyCallFault storeyAnswerBy membersBefore membersOf riskyAt countsFault storeyRowsFault shearFaultAt buildingFault tilted someRisky buildingRisky buildingFinding buildingAnswerBy
+unfolding every any first headerFault storeyFault memberFault detailed columnClass wallClass classOf places moments rotations interp blend columnA columnB columnC wallRows wallB mLimitAt rotationLimitAt axial moment stress hoops mLimit rotationLimit mDropped isOver findingBy answerBy total some meetsWallShare axialTotal overShear someOver damaged exceedsShare riskyByDamage storeyRisky storeyFinding noMember rowFault memberRowsFault storeyCallFault storeyAnswerBy membersBefore membersOf riskyAt countsFault storeyRowsFault shearFaultAt buildingFault tilted someRisky buildingRisky buildingFinding buildingAnswerBy
 found =
     record {
       one-accepted = record { answers = record { same = refl; place = named 1 (omega arith) refl }; no-refusal = refl };
@@ -196,6 +196,6 @@ pub carried : Carried publishedRules one other answerOne answerOther pairs
 carried = demand3 one other answerOne answerOther (found .one-accepted) (found .other-accepted) pairs met
 
 -- so the partners are over and Risky
-pub partners : Over publishedRules other (floorAt other 1) (member columnLater) × Risky publishedRules other (floorAt other 0) × BuildingRisky answerOther
+pub partners : Over publishedRules other (storeyMembersAt other 1) (member columnLater) × Risky publishedRules other (storeyMembersAt other 0) × BuildingRisky answerOther
 unfolding pairs listed membersBefore membersOf EveryPair
 partners = (carried .members .0 .0 (found .column-over), carried .storeys .1 .0 (found .storey-risky), carried .building (found .building-risky))

@@ -18,7 +18,7 @@ use Rattle.reading.proofs.Validity.{valid}
 use Rattle.members.specs.Class.{isWall}
 use Rattle.members.specs.Finding.{axialRatioD, knowledge, flag}
 use Rattle.storeys.specs.Totals.{total, some}
-use Rattle.storeys.specs.Storey.{publishedRules, wallShear, axialTotal, over, shearIfOver, overShear, someOver, damaged, memberAt, noMember, rowFault, membersFault}
+use Rattle.storeys.specs.Storey.{publishedRules, wallShear, axialTotal, over, shearIfOver, overShear, someOver, damaged, memberIn, noMember, rowFault, memberRowsFault}
 use Rattle.storeys.specs.declared.row.Tally.{Tally}
 use Rattle.storeys.specs.Tally.{weightOf, noTally, added, tallyOf, Rows, AddsUp}
 use Rattle.storeys.proofs.Rows.{nd-most}
@@ -26,15 +26,15 @@ use Rattle.storeys.proofs.Rows.{nd-most}
 -- ---- a number among those before
 module _ (rows : List Member) (v n : ℕ) where
   abbrev same : ℕ → Bool
-  same e = eqb (memberAt rows e .number) v
+  same e = eqb (memberIn rows e .number) v
 
   pub unseen : any same 0 ≡ false
   unseen = any-none same
 
-  pub unseen-next : (e r : ℕ) → any same e ≡ false → r ≡ memberAt rows e .number → eqb r v ≡ false → any same (e + 1) ≡ false
+  pub unseen-next : (e r : ℕ) → any same e ≡ false → r ≡ memberIn rows e .number → eqb r v ≡ false → any same (e + 1) ≡ false
   unseen-next e r h p q = any-more same e h (rw p at q)
 
-  pub seen-here : (e r : ℕ) → e < n → r ≡ memberAt rows e .number → eqb r v ≡ true → _≡_ {A = ℕ} 5 (pick (any same n) 5 0)
+  pub seen-here : (e r : ℕ) → e < n → r ≡ memberIn rows e .number → eqb r v ≡ true → _≡_ {A = ℕ} 5 (pick (any same n) 5 0)
   seen-here e r h p q = rw (any-holds same n e h (rw p at q))
 
   pub unseen-all : (e : ℕ) → any same e ≡ false → e ≤ n → n ≤ e → _≡_ {A = ℕ} 0 (pick (any same n) 5 0)
@@ -45,13 +45,13 @@ module _ (rows : List Member) where
   pub clear-none : first 0 (λ r. r) (rowFault rows) 0 ≡ 0
   clear-none = first-none 0 (λ r. r) (rowFault rows)
 
-  module _ (j : ℕ) (n x f : ℕ) (c : first 0 (λ r. r) (rowFault rows) j ≡ 0) (np : n ≡ memberAt rows j .number) (xp : x ≡ pick (any (λ (e : ℕ). eqb (memberAt rows e .number) n) j) 5 0) (fp : f ≡ inOrder (memberFault (memberAt rows j) ∷ x ∷ [])) where
+  module _ (j : ℕ) (n x f : ℕ) (c : first 0 (λ r. r) (rowFault rows) j ≡ 0) (np : n ≡ memberIn rows j .number) (xp : x ≡ pick (any (λ (e : ℕ). eqb (memberIn rows e .number) n) j) 5 0) (fp : f ≡ inOrder (memberFault (memberIn rows j) ∷ x ∷ [])) where
     fault-is : f ≡ rowFault rows j
     unfolding rowFault
     fault-is = fp ∙ rw (xp, np)
 
-    pub refused-here : j < length rows → (f ≡ 0 → ⊥) → f ≡ membersFault rows
-    unfolding membersFault
+    pub refused-here : j < length rows → (f ≡ 0 → ⊥) → f ≡ memberRowsFault rows
+    unfolding memberRowsFault
     refused-here h ne =
         let e : first 0 (λ r. r) (rowFault rows) (j + 1) ≡ f = first-next 0 (λ r. r) (rowFault rows) j c ∙ sym fault-is in
         sym (first-kept 0 (λ r. r) (rowFault rows) (j + 1) (length rows) (omega arith) (λ z. ne (sym e ∙ z)) ∙ e)
@@ -59,8 +59,8 @@ module _ (rows : List Member) where
     pub clear-next : f ≡ 0 → first 0 (λ r. r) (rowFault rows) (j + 1) ≡ 0
     clear-next z = first-next 0 (λ r. r) (rowFault rows) j c ∙ sym fault-is ∙ z
 
-  pub clear-all : (j : ℕ) → first 0 (λ r. r) (rowFault rows) j ≡ 0 → j ≤ length rows → length rows ≤ j → 0 ≡ membersFault rows
-  unfolding membersFault
+  pub clear-all : (j : ℕ) → first 0 (λ r. r) (rowFault rows) j ≡ 0 → j ≤ length rows → length rows ≤ j → 0 ≡ memberRowsFault rows
+  unfolding memberRowsFault
   clear-all j c h g = let z : j ≡ length rows = omega arith in sym (rw z at c)
 
 -- ---- totals
@@ -87,20 +87,20 @@ pick-most false a n h = omega arith
 
 -- ---- good rows
 module _ (rows : List Member) (g : Rows rows) (j : ℕ) (h : j < length rows) where
-  pub row-good : memberFault (memberAt rows j) ≡ 0
-  unfolding membersFault rowFault
-  row-good = pick-clear (memberFault (memberAt rows j)) _ (first-clear 0 (λ r. r) (rowFault rows) (length rows) j (g .good) h)
+  pub row-good : memberFault (memberIn rows j) ≡ 0
+  unfolding memberRowsFault rowFault
+  row-good = pick-clear (memberFault (memberIn rows j)) _ (first-clear 0 (λ r. r) (rowFault rows) (length rows) j (g .good) h)
 
-  pub row-valid : Valid (memberAt rows j)
-  row-valid = valid (memberAt rows j) row-good
+  pub row-valid : Valid (memberIn rows j)
+  row-valid = valid (memberIn rows j) row-good
 
   -- ---- the walls' V
-  pub wall-room : (t : ℕ) → t ≤ 9_999_999 * j → (t ≤ 10_000_000_000) × (memberAt rows j .case .shear ≤ 9_999_999)
+  pub wall-room : (t : ℕ) → t ≤ 9_999_999 * j → (t ≤ 10_000_000_000) × (memberIn rows j .case .shear ≤ 9_999_999)
   wall-room t l = (omega (arith, g .most), row-valid .shear)
 
-  pub wall-next : (t r : ℕ) → t + total wallShear (drop j rows) ≡ total wallShear rows → t ≤ 9_999_999 * j → r ≡ t + wallShear (memberAt rows j) → (r + total wallShear (drop (j + 1) rows) ≡ total wallShear rows) × (r ≤ 9_999_999 * (j + 1))
+  pub wall-next : (t r : ℕ) → t + total wallShear (drop j rows) ≡ total wallShear rows → t ≤ 9_999_999 * j → r ≡ t + wallShear (memberIn rows j) → (r + total wallShear (drop (j + 1) rows) ≡ total wallShear rows) × (r ≤ 9_999_999 * (j + 1))
   wall-next t r e l q =
-      (omega (arith, total-drop wallShear noMember rows j h), omega (arith, pick-most (isWall (memberAt rows j)) (memberAt rows j .case .shear) 9_999_999 (row-valid .shear)))
+      (omega (arith, total-drop wallShear noMember rows j h), omega (arith, pick-most (isWall (memberIn rows j)) (memberIn rows j .case .shear) 9_999_999 (row-valid .shear)))
 
 pub wall-all : (rows : List Member) (t j : ℕ) → t + total wallShear (drop j rows) ≡ total wallShear rows → length rows ≤ j → t ≡ total wallShear rows
 wall-all rows t j e h = omega (arith, total-end wallShear noMember rows j h)
@@ -135,10 +135,10 @@ module _ (k : ℕ) (met : Bool) (rows : List Member) where
       }
 
   module _ (g : Rows rows) (t : Tally) (j : ℕ) (u : Going k met rows t j) (h : j < length rows) where
-    pub tally-room : knowledge k ≡ true → AddsUp t k (memberAt rows j)
+    pub tally-room : knowledge k ≡ true → AddsUp t k (memberIn rows j)
     tally-room l =
         record {
-          level = l;
+          knowledge-level = l;
           good = row-good rows g j h;
           axial = omega (arith, u .axial-most, g .most);
           over = omega (arith, u .over-most, g .most);
@@ -153,29 +153,29 @@ module _ (k : ℕ) (met : Bool) (rows : List Member) where
     weight-most (suc (suc (suc (suc zero)))) l = omega arith
     weight-most (suc (suc (suc (suc (suc d))))) l = let z : ⊥ = omega arith in absurd z
 
-    next-axial : (t .axial + axialRatioD (memberAt rows j) .0) + axialTotal (drop (j + 1) rows) ≡ axialTotal rows
+    next-axial : (t .axial + axialRatioD (memberIn rows j) .0) + axialTotal (drop (j + 1) rows) ≡ axialTotal rows
     unfolding axialTotal
     next-axial = omega (arith, u .axial, total-drop (λ m. axialRatioD m .0) noMember rows j h)
 
-    next-shears : (t .over + shearIfOver publishedRules k met (memberAt rows j)) + overShear publishedRules k met (drop (j + 1) rows) ≡ overShear publishedRules k met rows
+    next-shears : (t .over + shearIfOver publishedRules k met (memberIn rows j)) + overShear publishedRules k met (drop (j + 1) rows) ≡ overShear publishedRules k met rows
     unfolding overShear
     next-shears = omega (arith, u .shears, total-drop (shearIfOver publishedRules k met) noMember rows j h)
 
-    next-anyone : ((t .some || over publishedRules k met (memberAt rows j)) || someOver publishedRules k met (drop (j + 1) rows)) ≡ someOver publishedRules k met rows
+    next-anyone : ((t .some || over publishedRules k met (memberIn rows j)) || someOver publishedRules k met (drop (j + 1) rows)) ≡ someOver publishedRules k met rows
     unfolding someOver
     next-anyone =
-        or-assoc (t .some) (over publishedRules k met (memberAt rows j)) (some (over publishedRules k met) (drop (j + 1) rows))
+        or-assoc (t .some) (over publishedRules k met (memberIn rows j)) (some (over publishedRules k met) (drop (j + 1) rows))
         ∙ ap (λ (b : Bool). t .some || b) (sym (some-drop (over publishedRules k met) noMember rows j h))
         ∙ u .anyone
 
-    kinds : (kind : ℕ) → damaged kind (drop j rows) ≡ flag (eqb (memberAt rows j .damage) kind) + damaged kind (drop (j + 1) rows)
+    kinds : (kind : ℕ) → damaged kind (drop j rows) ≡ flag (eqb (memberIn rows j .damage) kind) + damaged kind (drop (j + 1) rows)
     unfolding damaged
     kinds kind = total-drop (λ m. flag (eqb (m .damage) kind)) noMember rows j h
 
-    next-damage : (t .damage + weightOf (memberAt rows j .damage)) + weighed (j + 1) rows ≡ weighed 0 rows
+    next-damage : (t .damage + weightOf (memberIn rows j .damage)) + weighed (j + 1) rows ≡ weighed 0 rows
     next-damage = omega (arith, u .damage, kinds 1, kinds 2, kinds 3, kinds 4)
 
-    pub going-next : (r : Tally) → r ≡ added t k met (memberAt rows j) → Going k met rows r (j + 1)
+    pub going-next : (r : Tally) → r ≡ added t k met (memberIn rows j) → Going k met rows r (j + 1)
     unfolding added
     going-next r e =
         rw e
@@ -184,9 +184,9 @@ module _ (k : ℕ) (met : Bool) (rows : List Member) where
           shears = next-shears;
           anyone = next-anyone;
           damage = next-damage;
-          axial-most = omega (arith, u .axial-most, nd-most (memberAt rows j));
-          over-most = omega (arith, u .over-most, pick-most (over publishedRules k met (memberAt rows j)) (memberAt rows j .case .shear) 9_999_999 (row-valid rows g j h .shear));
-          damage-most = omega (arith, u .damage-most, weight-most (memberAt rows j .damage) (row-valid rows g j h .damage));
+          axial-most = omega (arith, u .axial-most, nd-most (memberIn rows j));
+          over-most = omega (arith, u .over-most, pick-most (over publishedRules k met (memberIn rows j)) (memberIn rows j .case .shear) 9_999_999 (row-valid rows g j h .shear));
+          damage-most = omega (arith, u .damage-most, weight-most (memberIn rows j .damage) (row-valid rows g j h .damage));
         })
 
   pub going-all : (t : Tally) (j : ℕ) → Going k met rows t j → length rows ≤ j → t ≡ tallyOf k met rows

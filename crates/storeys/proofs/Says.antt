@@ -15,9 +15,9 @@ use Rattle.reading.specs.First.{pick, any, first}
 use Rattle.reading.specs.Records.{storeyFault}
 use Rattle.members.specs.Finding.{knowledge}
 use Rattle.storeys.specs.Totals.{total}
-use Rattle.storeys.specs.Storey.{publishedRules, wallShear, memberAt, membersFault, storeyFinding, storeyAnswer, returnedStorey, storeyReturned}
+use Rattle.storeys.specs.Storey.{publishedRules, wallShear, memberIn, memberRowsFault, storeyFinding, storeyAnswer, returnedStorey, storeyReturned}
 use Rattle.storeys.specs.Tally.{tallyOf, Rows}
-use Rattle.storeys.specs.Building.{storeyAt, storeyRowsFault, Answers as Answered, placeIn, returnedBuilding, buildingReturned}
+use Rattle.storeys.specs.Building.{storeyIn, storeyRowsFault, Answers as Answered, placeIn, returnedBuilding, buildingReturned}
 use Rattle.storeys.specs.Verdict.{verdictOf, Counted, GoodRows}
 use Rattle.walk.proofs.Fn.{Plain}
 use Rattle.walk.proofs.Slice.{R, taken, made}
@@ -27,13 +27,13 @@ use Rattle.storeys.proofs.Structs.{tally as tallied, storeyfinding, sto
 abbrev pub repeat-fault : Plain {n = 1} (pShrS (R member) 0 tt ∷ pNum w64 ∷ pNum w64 ∷ []) (rNum w64)
 repeat-fault = record {
   requires = λ κs a. (a .1 .0 ≤ length (a .0 .now)) ∷ [];
-  ensures = λ κs a z e. (z ≡ pick (any (λ (e : ℕ). eqb (memberAt (a .0 .now) e .number) (a .1 .1 .0)) (a .1 .0)) 5 0) ∷ [];
+  ensures = λ κs a z e. (z ≡ pick (any (λ (e : ℕ). eqb (memberIn (a .0 .now) e .number) (a .1 .1 .0)) (a .1 .0)) 5 0) ∷ [];
 }
 
 abbrev pub members-fault : Plain {n = 1} (pShrS (R member) 0 tt ∷ []) (rNum w64)
 members-fault = record {
   requires = λ κs a. [];
-  ensures = λ κs a z e. (z ≡ membersFault (a .0 .now)) ∷ [];
+  ensures = λ κs a z e. (z ≡ memberRowsFault (a .0 .now)) ∷ [];
 }
 
 abbrev pub wall-total : Plain {n = 1} (pShrS (R member) 0 tt ∷ []) (rNum w64)
@@ -72,7 +72,7 @@ counts-fit = record {
 abbrev pub storey-repeat-fault : Plain {n = 1} (pShrS (R storey) 0 tt ∷ pNum w64 ∷ pNum w64 ∷ []) (rNum w64)
 storey-repeat-fault = record {
   requires = λ κs a. (a .1 .0 ≤ length (a .0 .now)) ∷ [];
-  ensures = λ κs a z e. (z ≡ pick (any (λ (e : ℕ). eqb (storeyAt (a .0 .now) e .number) (a .1 .1 .0)) (a .1 .0)) 5 0) ∷ [];
+  ensures = λ κs a z e. (z ≡ pick (any (λ (e : ℕ). eqb (storeyIn (a .0 .now) e .number) (a .1 .1 .0)) (a .1 .0)) 5 0) ∷ [];
 }
 
 abbrev pub rows-fault : Plain {n = 2} (pShrS (R storey) 0 tt ∷ pShrS (R member) 1 tt ∷ []) (rNum w64)

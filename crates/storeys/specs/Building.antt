@@ -16,28 +16,28 @@ use Rattle.storeys.specs.declared.BuildingFinding.{BuildingFinding}
 use Rattle.storeys.specs.declared.BuildingAnswer.{BuildingAnswer}
 use Rattle.storeys.specs.declared.BuildingAnswer.the-variants.{Judged, Refused}
 use Rattle.storeys.specs.Totals.{total}
-use Rattle.storeys.specs.Storey.{Rules, publishedRules, meetsWallShare, overShear, storeyRisky, countFault, shearFault, membersFault}
+use Rattle.storeys.specs.Storey.{Rules, publishedRules, meetsWallShare, overShear, storeyRisky, countFault, shearFault, memberRowsFault}
 
 -- what stands past the rows
 abbrev pub noStorey : Storey
 noStorey = record { number = 0; shear = 0; count = 0 }
 
 -- storey i, counted from 0
-abbrev pub storeyAt : List Storey → ℕ → Storey
-storeyAt ss i = getD ss i noStorey
+abbrev pub storeyIn : List Storey → ℕ → Storey
+storeyIn ss i = getD ss i noStorey
 
 -- how many members the storeys before storey i have
 unfoldable pub membersBefore : List Storey → ℕ → ℕ
 membersBefore ss zero = 0
-membersBefore ss (suc i) = membersBefore ss i + storeyAt ss i .count
+membersBefore ss (suc i) = membersBefore ss i + storeyIn ss i .count
 
 -- the members of storey i: after those of the storeys before it, as many as it counts
 unfoldable pub membersOf : List Storey → List Member → ℕ → List Member
-membersOf ss ms i = take (storeyAt ss i .count) (drop (membersBefore ss i) ms)
+membersOf ss ms i = take (storeyIn ss i .count) (drop (membersBefore ss i) ms)
 
 -- storey i is Risky
 unfoldable pub riskyAt : Rules → ℕ → List Storey → List Member → ℕ → Bool
-riskyAt rules k ss ms i = storeyRisky rules k (storeyAt ss i .shear) (membersOf ss ms i)
+riskyAt rules k ss ms i = storeyRisky rules k (storeyIn ss i .shear) (membersOf ss ms i)
 
 -- 1: "a count or total of counts that isn't the rows given"
 unfoldable pub countsFault : Header → List Storey → List Member → ℕ
@@ -47,13 +47,13 @@ countsFault h ss ms =
 -- storey i: its 3, its 5 (its number is one of those before it), then its members' 3, 4 and 5
 unfoldable pub storeyRowsFault : List Storey → List Member → ℕ → ℕ
 storeyRowsFault ss ms i =
-    inOrder (storeyFault (storeyAt ss i) ∷ repeated (λ e. storeyAt ss e .number) i ∷ membersFault (membersOf ss ms i) ∷ [])
+    inOrder (storeyFault (storeyIn ss i) ∷ repeated (λ e. storeyIn ss e .number) i ∷ memberRowsFault (membersOf ss ms i) ∷ [])
 
 -- storey i: 10
 unfoldable pub shearFaultAt : Rules → ℕ → List Storey → List Member → ℕ → ℕ
 shearFaultAt rules k ss ms i =
     let part = membersOf ss ms i in
-    shearFault (overShear rules k (meetsWallShare (storeyAt ss i .shear) part) part)
+    shearFault (overShear rules k (meetsWallShare (storeyIn ss i .shear) part) part)
 
 -- the first refusal of the call on a building: "1 over all, then records in survey order: 3, 4, 5, 7; then 10"
 unfoldable pub buildingFault : Rules → Header → List Storey → List Member → ℕ
@@ -110,11 +110,11 @@ pub record Answers (rules : Rules) (h : Header) (ss : List Storey) (ms : List Me
   pub place : PlaceInOk rules h ss ms r
 
 -- the values of a printed building, and the place
-abbrev pub buildingValues : BuildingFinding → List ℕ
-buildingValues f = flag (f .tilted) ∷ flag (f .risky) ∷ f .place ∷ []
+abbrev pub buildingFindingValues : BuildingFinding → List ℕ
+buildingFindingValues f = flag (f .tilted) ∷ flag (f .risky) ∷ f .place ∷ []
 
 abbrev pub buildingFound : BuildingFinding → Returned
-buildingFound f = record { refusal = 0; line = 0; values = buildingValues f }
+buildingFound f = record { refusal = 0; line = 0; values = buildingFindingValues f }
 
 -- what each case of the answer says
 abbrev pub returnedBuilding : BuildingAnswer → Returned

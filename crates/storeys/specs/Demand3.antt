@@ -18,7 +18,7 @@ use Rattle.storeys.specs.declared.StoreyAnswer.the-variants.{Judged as J
 use Rattle.storeys.specs.declared.BuildingAnswer.{BuildingAnswer}
 use Rattle.storeys.specs.declared.BuildingAnswer.the-variants.{Judged as JudgedBuilding, Refused as RefusedBuilding}
 use Rattle.storeys.specs.Storey.{Rules, meetsWallShare, storeyAnswerBy}
-use Rattle.storeys.specs.Building.{storeyAt, membersOf, Answers, returnedBuilding}
+use Rattle.storeys.specs.Building.{storeyIn, membersOf, Answers, returnedBuilding}
 use Rattle.storeys.specs.Pairing.{Pairing, EveryPair}
 
 -- SURVEY: "a header with its storeys and members as records", which are the arguments of the call on a building
@@ -28,20 +28,20 @@ pub record Survey : Type 0 where
   pub members : List Member
 
 -- the knowledge level k of a survey
-abbrev pub level : Survey → ℕ
-level a = a .header .knowledge
+abbrev pub knowledgeOf : Survey → ℕ
+knowledgeOf a = a .header .knowledge
 
 -- a storey with its members
-pub record Floor : Type 0 where
+pub record StoreyMembers : Type 0 where
   pub storey : Storey
   pub members : List Member
 
-abbrev pub floorAt : Survey → ℕ → Floor
-floorAt a i = record { storey = storeyAt (a .storeys) i; members = membersOf (a .storeys) (a .members) i }
+abbrev pub storeyMembersAt : Survey → ℕ → StoreyMembers
+storeyMembersAt a i = record { storey = storeyIn (a .storeys) i; members = membersOf (a .storeys) (a .members) i }
 
 -- all the storeys of a survey, each with the members that the call on a building gives it
-abbrev pub floors : Survey → List Floor
-floors a = listed (floorAt a) (length (a .storeys))
+abbrev pub storeysMembers : Survey → List StoreyMembers
+storeysMembers a = listed (storeyMembersAt a) (length (a .storeys))
 
 -- ACCEPTED: "the building call returns no refusal for it"; r is that call's answer, whichever Risky storey it names
 pub record Accepted (rules : Rules) (a : Survey) (r : BuildingAnswer) : Type 0 where
@@ -62,12 +62,12 @@ abbrev pub buildingRiskyIn : BuildingAnswer → Bool
 buildingRiskyIn (JudgedBuilding f) = f .risky
 buildingRiskyIn (RefusedBuilding n) = false
 
-abbrev pub Over : Rules → Survey → Floor → Member → Type 0
+abbrev pub Over : Rules → Survey → StoreyMembers → Member → Type 0
 Over rules a f m =
-    overIn (answerBy (rules .limits) (level a) (meetsWallShare (f .storey .shear) (f .members)) m) ≡ true
+    overIn (answerBy (rules .limits) (knowledgeOf a) (meetsWallShare (f .storey .shear) (f .members)) m) ≡ true
 
-abbrev pub Risky : Rules → Survey → Floor → Type 0
-Risky rules a f = riskyIn (storeyAnswerBy rules (level a) (f .storey) (f .members)) ≡ true
+abbrev pub Risky : Rules → Survey → StoreyMembers → Type 0
+Risky rules a f = riskyIn (storeyAnswerBy rules (knowledgeOf a) (f .storey) (f .members)) ≡ true
 
 abbrev pub BuildingRisky : BuildingAnswer → Type 0
 BuildingRisky r = buildingRiskyIn r ≡ true
@@ -78,7 +78,7 @@ abbrev pub MemberPairs : List Member → List Member → Type 0
 MemberPairs ms ns = Pairing (λ m n. Unit) ms ns
 
 abbrev pub StoreyPairs : Survey → Survey → Type 0
-StoreyPairs a b = Pairing (λ f g. MemberPairs (f .members) (g .members)) (floors a) (floors b)
+StoreyPairs a b = Pairing (λ f g. MemberPairs (f .members) (g .members)) (storeysMembers a) (storeysMembers b)
 
 -- NOWHERE BETTER, of two partners m and n, judged with the level k
 pub record Severer (k : ℕ) (m n : Member) : Type 0 where
@@ -121,7 +121,7 @@ pub record Severer (k : ℕ) (m n : Member) : Type 0 where
   pub strengthened-c : isWall n ≡ false → n .strengthened ≡ 1 → classOf k n ≡ ColumnC → classOf k m ≡ ColumnC
 
 -- of two storeys that are partners, and their members' pairs
-pub record SevererStorey (k : ℕ) (f g : Floor) (ms : MemberPairs (f .members) (g .members)) : Type 0 where
+pub record SevererStorey (k : ℕ) (f g : StoreyMembers) (ms : MemberPairs (f .members) (g .members)) : Type 0 where
   -- "equal .. storey shears"
   pub shear : f .storey .shear ≡ g .storey .shear
   pub members : EveryPair (λ m n u. Severer k m n) ms
@@ -129,11 +129,11 @@ pub record SevererStorey (k : ℕ) (f g : Floor) (ms : MemberPairs (f .members) 
 -- of two surveys and their storeys' pairs
 pub record NowhereBetter (a b : Survey) (pairs : StoreyPairs a b) : Type 0 where
   -- "equal knowledge level"
-  pub knowledge : level a ≡ level b
+  pub knowledge : knowledgeOf a ≡ knowledgeOf b
   -- "no .. tilt": each against the one in the same field
   pub tilt1 : a .header .tilt1 ≤ b .header .tilt1
   pub tilt2 : a .header .tilt2 ≤ b .header .tilt2
-  pub storeys : EveryPair (λ f g ms. SevererStorey (level a) f g ms) pairs
+  pub storeys : EveryPair (λ f g ms. SevererStorey (knowledgeOf a) f g ms) pairs
 
 -- CARRIED, over the same pairs: "every member over in the first has a partner over in the second, every storey Risky in the first has a partner Risky in
 -- the second, and where the first building is Risky, so is the second"

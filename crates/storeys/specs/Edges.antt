@@ -16,7 +16,7 @@ use Rattle.members.specs.Tables.{places, moments, rotations}
 use Rattle.members.specs.Limits.{interp, blend, columnA, columnB, columnC, wallRows, wallB, mLimitAt, rotationLimitAt}
 use Rattle.members.specs.Finding.{axial, moment, stress, hoops, mLimit, rotationLimit, mDropped, isOver, findingBy, memberReturned}
 use Rattle.storeys.specs.Totals.{total, some}
-use Rattle.storeys.specs.Storey.{meetsWallShare, axialTotal, overShear, someOver, damaged, exceedsShare, riskyByDamage, storeyRisky, storeyFinding, noMember, rowFault, membersFault, storeyCallFault, storeyReturned}
+use Rattle.storeys.specs.Storey.{meetsWallShare, axialTotal, overShear, someOver, damaged, exceedsShare, riskyByDamage, storeyRisky, storeyFinding, noMember, rowFault, memberRowsFault, storeyCallFault, storeyReturned}
 use Rattle.storeys.specs.Building.{membersBefore, membersOf, riskyAt, countsFault, storeyRowsFault, shearFaultAt, buildingFault, tilted, someRisky, buildingRisky, buildingFinding, buildingReturned}
 
 -- a member whose n is N_K and whose n_D is N_D, ρ 25 × A_sh, and with a short side of 100 v 10 × V_e
@@ -60,8 +60,8 @@ member c =
     }
 
 -- columns with n, hooks, the mark, V_e and V_r; a wall with n and V_e
-abbrev pub column : ℕ → ℕ → ℕ → ℕ → ℕ → Member
-column n hooks strengthened ve vr =
+abbrev pub edgeColumn : ℕ → ℕ → ℕ → ℕ → ℕ → Member
+edgeColumn n hooks strengthened ve vr =
     member (record { number = 1; long = 400; short = 250; hoops = 130; hooks = hooks; strengthened = strengthened; damage = 0; nd = 0; nk = n; me = 0; ve = ve; vr = vr; shear = 0 })
 
 abbrev pub wall : ℕ → ℕ → Member
@@ -83,18 +83,18 @@ abbrev pub class : ℕ → Member → List ℕ
 class k m = getD (memberReturned k false m .values) 0 0 ∷ []
 
 -- Σ, c, P, W and Risky of a storey with the shear 1,000
-abbrev pub storey : List Member → Storey
-storey ms = record { number = 1; shear = 1_000; count = length ms }
+abbrev pub edgeStorey : List Member → Storey
+edgeStorey ms = record { number = 1; shear = 1_000; count = length ms }
 
 abbrev pub verdict : List Member → List ℕ
-verdict ms = take 5 (storeyReturned 100 (storey ms) ms .values)
+verdict ms = take 5 (storeyReturned 100 (edgeStorey ms) ms .values)
 
 -- tilt and Risky of a building with one storey of one member
 abbrev pub tilt : ℕ → ℕ → List ℕ
 tilt t1 t2 =
     let h : Header = record { knowledge = 100; height = 9_000; storeys = 3; tilt1 = t1; tilt2 = t2; count = 1 } in
     let ms : List Member = loaded 1 0 0 0 0 ∷ [] in
-    buildingReturned h (storey ms ∷ []) ms 0 .values
+    buildingReturned h (edgeStorey ms ∷ []) ms 0 .values
 
 -- members 1 to n, the first with damage kind 4
 abbrev pub oneDamaged : ℕ → List Member
@@ -111,18 +111,18 @@ edge found stated = record { found = found; stated = stated }
 unfoldable pub edges : List Edge
 edges =
     -- (a) column A, n 3,500
-    edge (limits 100 (column 3_500 1 0 60 100)) (1 ∷ 45_000 ∷ 27_500 ∷ [])
+    edge (limits 100 (edgeColumn 3_500 1 0 60 100)) (1 ∷ 45_000 ∷ 27_500 ∷ [])
     -- (b) column B, n 3,500, ρ 3,250
-    ∷ edge (limits 100 (column 3_500 0 0 60 100)) (2 ∷ 31_875 ∷ 15_625 ∷ [])
+    ∷ edge (limits 100 (edgeColumn 3_500 0 0 60 100)) (2 ∷ 31_875 ∷ 15_625 ∷ [])
     -- (c) same, strengthened, factor 100
-    ∷ edge (limits 100 (column 3_500 0 1 60 100)) (2 ∷ 23_906 ∷ 11_718 ∷ [])
+    ∷ edge (limits 100 (edgeColumn 3_500 0 1 60 100)) (2 ∷ 23_906 ∷ 11_718 ∷ [])
     -- (d) column C, n 8,500
-    ∷ edge (limits 100 (column 8_500 0 0 200 100)) (3 ∷ 10_000 ∷ 2_500 ∷ [])
+    ∷ edge (limits 100 (edgeColumn 8_500 0 0 200 100)) (3 ∷ 10_000 ∷ 2_500 ∷ [])
     -- (e) wall A with zone, n 1,750, v 11,000
     ∷ edge (limits 100 (wall 1_750 1_100)) (4 ∷ 43_750 ∷ 18_750 ∷ [])
     -- (f) k 90, V_r 100, detailed: V_e 63 is A, 64 B
-    ∷ edge (class 90 (column 0 1 0 63 100)) (1 ∷ [])
-    ∷ edge (class 90 (column 0 1 0 64 100)) (2 ∷ [])
+    ∷ edge (class 90 (edgeColumn 0 1 0 63 100)) (1 ∷ [])
+    ∷ edge (class 90 (edgeColumn 0 1 0 64 100)) (2 ∷ [])
     -- (g) Σ 7,500, c 2: P 175 of 1,000 passes, 176 is Risky
     ∷ edge (verdict (loaded 1 3_500 1_000 175 0 ∷ loaded 2 4_000 0 500 0 ∷ [])) (7_500 ∷ 2 ∷ 175 ∷ 1_000 ∷ 0 ∷ [])
     ∷ edge (verdict (loaded 1 3_500 1_000 176 0 ∷ loaded 2 4_000 0 500 0 ∷ [])) (7_500 ∷ 2 ∷ 176 ∷ 1_000 ∷ 1 ∷ [])
@@ -139,5 +139,5 @@ edges =
 
 -- every edge is as document 01 states it
 pub edges-met : map (λ e. e .found) edges ≡ map (λ e. e .stated) edges
-unfolding every any first listed headerFault storeyFault memberFault detailed columnClass wallClass classOf places moments rotations interp blend columnA columnB columnC wallRows wallB mLimitAt rotationLimitAt axial moment stress hoops mLimit rotationLimit mDropped isOver findingBy memberReturned total some meetsWallShare axialTotal overShear someOver damaged exceedsShare riskyByDamage storeyRisky storeyFinding noMember rowFault membersFault storeyCallFault storeyReturned membersBefore membersOf riskyAt countsFault storeyRowsFault shearFaultAt buildingFault tilted someRisky buildingRisky buildingFinding buildingReturned edges
+unfolding every any first listed headerFault storeyFault memberFault detailed columnClass wallClass classOf places moments rotations interp blend columnA columnB columnC wallRows wallB mLimitAt rotationLimitAt axial moment stress hoops mLimit rotationLimit mDropped isOver findingBy memberReturned total some meetsWallShare axialTotal overShear someOver damaged exceedsShare riskyByDamage storeyRisky storeyFinding noMember rowFault memberRowsFault storeyCallFault storeyReturned membersBefore membersOf riskyAt countsFault storeyRowsFault shearFaultAt buildingFault tilted someRisky buildingRisky buildingFinding buildingReturned edges
 edges-met = refl

@@ -11,7 +11,7 @@ use Rattle.members.specs.Tables.{places, moments, rotations}
 use Rattle.members.specs.Limits.{interp, blend, columnA, columnB, columnC, wallRows, wallB, mLimitAt, rotationLimitAt}
 use Rattle.members.specs.Finding.{axial, moment, stress, hoops, mLimit, rotationLimit, mDropped, isOver, findingBy}
 use Rattle.storeys.specs.Totals.{total, some}
-use Rattle.storeys.specs.Storey.{meetsWallShare, axialTotal, overShear, someOver, damaged, exceedsShare, riskyByDamage, storeyRisky, storeyFinding, noMember, rowFault, membersFault}
+use Rattle.storeys.specs.Storey.{meetsWallShare, axialTotal, overShear, someOver, damaged, exceedsShare, riskyByDamage, storeyRisky, storeyFinding, noMember, rowFault, memberRowsFault}
 use Rattle.storeys.specs.Building.{membersBefore, membersOf, riskyAt, countsFault, storeyRowsFault, shearFaultAt, buildingFault, tilted, someRisky, buildingRisky, buildingFinding, buildingReturned}
 use Rattle.storeys.specs.Demand3.{Survey}
 
@@ -75,8 +75,8 @@ survey g =
     }
 
 -- columns with k, W, f_cm, hooks, the mark, N_K, M_e, V_r and rotation; walls with N_K, M_e, V_r, V and drift; with k 100 m is 100 × M_e
-abbrev pub column : ℕ → ℕ → ℕ → ℕ → ℕ → ℕ → ℕ → ℕ → ℕ → Given
-column k w fcm hooks strengthened nk me vr rotation =
+abbrev pub neededColumn : ℕ → ℕ → ℕ → ℕ → ℕ → ℕ → ℕ → ℕ → ℕ → Given
+neededColumn k w fcm hooks strengthened nk me vr rotation =
     record {
       k = k;
       storeyShear = w;
@@ -126,15 +126,15 @@ pair one other = record { one = one; other = other }
 unfoldable pub needed : List Pair
 needed =
     -- equal knowledge level: a higher one lowers m, here of a column C with the limit 10,000
-    pair (column 90 1_000 100 0 0 0 95 60 0) (column 100 1_000 100 0 0 0 95 60 0)
+    pair (neededColumn 90 1_000 100 0 0 0 95 60 0) (neededColumn 100 1_000 100 0 0 0 95 60 0)
     -- equal storey shears: more of it lowers the share, 351 of 1,000
-    ∷ pair (column 100 1_000 100 0 0 0 999 60 0) (column 100 2_000 100 0 0 0 999 60 0)
+    ∷ pair (neededColumn 100 1_000 100 0 0 0 999 60 0) (neededColumn 100 2_000 100 0 0 0 999 60 0)
     -- equal strengths: with f_cm 99 the hoops suffice, and the column is A and no longer B
-    ∷ pair (column 100 1_000 100 1 0 0 500 1_000 0) (column 100 1_000 99 1 0 0 500 1_000 0)
+    ∷ pair (neededColumn 100 1_000 100 1 0 0 500 1_000 0) (neededColumn 100 1_000 99 1 0 0 500 1_000 0)
     -- no strengthened column C unless its partner is: B is cut to 7,500, C stands at 10,000
-    ∷ pair (column 100 1_000 100 0 1 7_000 80 100 0) (column 100 1_000 100 0 1 7_000 80 90 0)
+    ∷ pair (neededColumn 100 1_000 100 0 1 7_000 80 100 0) (neededColumn 100 1_000 100 0 1 7_000 80 90 0)
     -- no rotation lower
-    ∷ pair (column 100 1_000 100 0 0 0 0 60 99_999) (column 100 1_000 100 0 0 0 0 60 0)
+    ∷ pair (neededColumn 100 1_000 100 0 0 0 0 60 99_999) (neededColumn 100 1_000 100 0 0 0 0 60 0)
     -- every wall its partner's class: without boundary zone B is milder than A, 50,000 and 45,000
     ∷ pair (wall 1_000 470 901 1_000 7_500) (wall 1_000 470 900 1_000 7_500)
     -- equal wall shears: with 400 of 1,000 the m test is dropped
@@ -150,5 +150,5 @@ answer g =
 
 -- all are accepted, and each time the first building is Risky and the second not
 pub needed-all : map (λ p. answer (p .one) ++ answer (p .other)) needed ≡ map (λ p. 0 ∷ 0 ∷ 1 ∷ 0 ∷ 0 ∷ 0 ∷ []) needed
-unfolding every any first headerFault storeyFault memberFault detailed columnClass wallClass classOf places moments rotations interp blend columnA columnB columnC wallRows wallB mLimitAt rotationLimitAt axial moment stress hoops mLimit rotationLimit mDropped isOver findingBy total some meetsWallShare axialTotal overShear someOver damaged exceedsShare riskyByDamage storeyRisky storeyFinding noMember rowFault membersFault membersBefore membersOf riskyAt countsFault storeyRowsFault shearFaultAt buildingFault tilted someRisky buildingRisky buildingFinding buildingReturned needed
+unfolding every any first headerFault storeyFault memberFault detailed columnClass wallClass classOf places moments rotations interp blend columnA columnB columnC wallRows wallB mLimitAt rotationLimitAt axial moment stress hoops mLimit rotationLimit mDropped isOver findingBy total some meetsWallShare axialTotal overShear someOver damaged exceedsShare riskyByDamage storeyRisky storeyFinding noMember rowFault memberRowsFault membersBefore membersOf riskyAt countsFault storeyRowsFault shearFaultAt buildingFault tilted someRisky buildingRisky buildingFinding buildingReturned needed
 needed-all = refl

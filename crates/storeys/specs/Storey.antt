@@ -135,16 +135,16 @@ noMember =
     }
 
 -- row j of some members, counted from 0
-abbrev pub memberAt : List Member → ℕ → Member
-memberAt ms j = getD ms j noMember
+abbrev pub memberIn : List Member → ℕ → Member
+memberIn ms j = getD ms j noMember
 
 -- a member's 3 and 4, then its 5: its number is one of those before it in the storey
 unfoldable pub rowFault : List Member → ℕ → ℕ
-rowFault ms j = inOrder (memberFault (memberAt ms j) ∷ repeated (λ e. memberAt ms e .number) j ∷ [])
+rowFault ms j = inOrder (memberFault (memberIn ms j) ∷ repeated (λ e. memberIn ms e .number) j ∷ [])
 
 -- the first refusal of the members of a storey, in their order
-unfoldable pub membersFault : List Member → ℕ
-membersFault ms = first 0 (λ n. n) (rowFault ms) (length ms)
+unfoldable pub memberRowsFault : List Member → ℕ
+memberRowsFault ms = first 0 (λ n. n) (rowFault ms) (length ms)
 
 -- the first refusal of the call on a storey: 1, k's 3, the storey's 3, its members' 3, 4 and 5, and 10
 unfoldable pub storeyCallFault : Rules → ℕ → Storey → List Member → ℕ
@@ -153,7 +153,7 @@ storeyCallFault rules k s ms =
     (countFault (s .count) (length ms)
     ∷ knowledgeFault k
     ∷ storeyFault s
-    ∷ membersFault ms
+    ∷ memberRowsFault ms
     ∷ shearFault (overShear rules k (meetsWallShare (s .shear) ms) ms)
     ∷ [])
 
@@ -168,11 +168,11 @@ abbrev pub storeyAnswer : ℕ → Storey → List Member → StoreyAnswer
 storeyAnswer = storeyAnswerBy publishedRules
 
 -- the values of a printed storey after its number, and the 0.40 condition
-abbrev pub storeyValues : StoreyFinding → List ℕ
-storeyValues f = f .axial ∷ f .members ∷ f .over ∷ f .shear ∷ flag (f .risky) ∷ flag (f .walls) ∷ []
+abbrev pub storeyFindingValues : StoreyFinding → List ℕ
+storeyFindingValues f = f .axial ∷ f .members ∷ f .over ∷ f .shear ∷ flag (f .risky) ∷ flag (f .walls) ∷ []
 
 abbrev pub storeyFound : StoreyFinding → Returned
-storeyFound f = record { refusal = 0; line = 0; values = storeyValues f }
+storeyFound f = record { refusal = 0; line = 0; values = storeyFindingValues f }
 
 -- what each case of the answer says
 abbrev pub returnedStorey : StoreyAnswer → Returned

@@ -14,7 +14,7 @@ use Rattle.storeys.specs.declared.StoreyAnswer.{StoreyAnswer}
 use Rattle.storeys.specs.declared.StoreyAnswer.the-variants.{Judged, Refused}
 use Rattle.storeys.specs.declared.StoreyFinding.{StoreyFinding}
 use Rattle.storeys.specs.declared.row.Tally.{Tally}
-use Rattle.storeys.specs.Storey.{publishedRules, axialTotal, over, overShear, someOver, damaged, exceedsShare, countFault, knowledgeFault, shearFault, membersFault}
+use Rattle.storeys.specs.Storey.{publishedRules, axialTotal, over, overShear, someOver, damaged, exceedsShare, countFault, knowledgeFault, shearFault, memberRowsFault}
 
 -- what a member with damage of a kind adds: 20, 28, 35, 140
 abbrev pub weightOf : ℕ → ℕ
@@ -56,7 +56,7 @@ pub record AddsNumbers (t : Tally) (nd : ℕ) (m : Member) : Type 0 where
   pub kind : m .damage ≤ 4
 
 pub record AddsUp (t : Tally) (k : ℕ) (m : Member) : Type 0 where
-  pub level : knowledge k ≡ true
+  pub knowledge-level : knowledge k ≡ true
   pub good : memberFault m ≡ 0
   pub axial : t .axial ≤ 1_000_000_000
   pub over : t .over ≤ 10_000_000_000
@@ -64,7 +64,7 @@ pub record AddsUp (t : Tally) (k : ℕ) (m : Member) : Type 0 where
 
 -- the members of a storey that the calls judge: good ones, 200 at most
 pub record Rows (ms : List Member) : Type 0 where
-  pub good : membersFault ms ≡ 0
+  pub good : memberRowsFault ms ≡ 0
   pub most : length ms ≤ 200
 
 -- a storey's numbers as small as its finding needs

@@ -59,6 +59,6 @@ Counted ss ms = total (λ (s : Storey). s .count) ss ≡ length ms
 
 -- the rows of a building that are judged
 pub record GoodRows (k : ℕ) (ss : List Storey) (ms : List Member) : Type 0 where
-  pub level : knowledge k ≡ true
+  pub knowledge-level : knowledge k ≡ true
   pub counted : Counted ss ms
   pub good : first 0 (λ n. n) (storeyRowsFault ss ms) (length ss) ≡ 0

@@ -8,7 +8,7 @@ ghost use Rattle.reading.specs.First.{pick, any};
 ghost use Rattle.reading.specs.Records.{storeyFault};
 ghost use Rattle.members.specs.Finding.{knowledge};
 ghost use Rattle.storeys.specs.Totals.{total};
-ghost use Rattle.storeys.specs.Storey.{publishedRules, wallShear, memberAt, membersFault, storeyFinding, storeyAnswer, returnedStorey, storeyReturned};
+ghost use Rattle.storeys.specs.Storey.{publishedRules, wallShear, memberIn, memberRowsFault, storeyFinding, storeyAnswer, returnedStorey, storeyReturned};
 ghost use Rattle.storeys.specs.Tally.{tallyOf, Rows};
 use crate::StoreyFinding;
 use crate::StoreyJudgment;
@@ -29,7 +29,7 @@ use reading::records::Storey;
 // 5 where one of the first n members has the number v.
 fn repeat_fault(rows: &[Member], n: usize, v: u64) -> u64
     requires { ⌜ n ≤ length (now rows) ⌝ }
-    ensures { λ r. ⌜ r ≡ pick (any (λ (e : ℕ). eqb (memberAt (now (rows .entry)) e .number) v) n) 5 0 ⌝ }
+    ensures { λ r. ⌜ r ≡ pick (any (λ (e : ℕ). eqb (memberIn (now (rows .entry)) e .number) v) n) 5 0 ⌝ }
 {
     let mut e = 0;
     while e < n {
@@ -43,7 +43,7 @@ fn repeat_fault(rows: &[Member], n: usize, v: u64) -> u64
 
 // The first refusal of the members, in their order.
 pub(crate) fn members_fault(rows: &[Member]) -> u64
-    ensures { λ r. ⌜ r ≡ membersFault (now (rows .entry)) ⌝ }
+    ensures { λ r. ⌜ r ≡ memberRowsFault (now (rows .entry)) ⌝ }
 {
     let mut j = 0;
     while j < rows.len() {

@@ -5,13 +5,13 @@ use borrow.Author.Needs.{needs}
 use Rattle.members.proofs.limits.over_four.Statement.{statement}
 use Rattle.members.proofs.limits.over_four.Tie as tie
 
-level-requires : tie.Need-level-requires
-level-requires c κs = search needs
+row-limit-requires : tie.Need-row-limit-requires
+row-limit-requires c κs = search needs
 
 returns : tie.Need-returns
 returns c =
     let s = c .before .before .before .args in
-    (c .level .ensures .0 ∙ sym (up-to (s .a) (s .b) _ (s .x) (omega arith)), c .level .ensures .1)
+    (c .row-limit .ensures .0 ∙ sym (up-to (s .a) (s .b) _ (s .x) (omega arith)), c .row-limit .ensures .1)
 
 segment-requires : tie.Need-segment-requires
 segment-requires c κs = search needs
@@ -47,26 +47,26 @@ returns-4 c =
       c .segment3 .ensures .1,
     )
 
-level-requires-2 : tie.Need-level-requires-2
-level-requires-2 c κs = search needs
+row-limit-requires-2 : tie.Need-row-limit-requires-2
+row-limit-requires-2 c κs = search needs
 
 returns-5 : tie.Need-returns-5
 returns-5 c =
     let s = c .before .before .before .before .before .before .before .before .before .args in (
-      c .level2 .ensures .0
+      c .row-limit2 .ensures .0
           ∙ sym
           (past (s .a) (s .b) _ (s .x) (omega arith) (omega arith)
           ∙ past (s .b) (s .c) _ (s .x) (omega arith) (omega arith)
           ∙ past (s .c) (s .d) _ (s .x) (omega arith) (omega arith)
           ∙ alone (s .d) (s .x)),
-      c .level2 .ensures .1,
+      c .row-limit2 .ensures .1,
     )
 
 pub over-four-spec : {M : Type 1} → statement M
 over-four-spec =
     tie.close
     (tie.spec
-    level-requires
+    row-limit-requires
     returns
     segment-requires
     returns-2
@@ -74,5 +74,5 @@ over-four-spec =
     returns-3
     segment-requires-3
     returns-4
-    level-requires-2
+    row-limit-requires-2
     returns-5)

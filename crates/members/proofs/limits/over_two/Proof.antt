@@ -5,13 +5,13 @@ use borrow.Author.Needs.{needs}
 use Rattle.members.proofs.limits.over_two.Statement.{statement}
 use Rattle.members.proofs.limits.over_two.Tie as tie
 
-level-requires : tie.Need-level-requires
-level-requires c κs = search needs
+row-limit-requires : tie.Need-row-limit-requires
+row-limit-requires c κs = search needs
 
 returns : tie.Need-returns
 returns c =
     let s = c .before .before .before .args in
-    (c .level .ensures .0 ∙ sym (up-to (s .a) (s .b) _ (s .x) (omega arith)), c .level .ensures .1)
+    (c .row-limit .ensures .0 ∙ sym (up-to (s .a) (s .b) _ (s .x) (omega arith)), c .row-limit .ensures .1)
 
 segment-requires : tie.Need-segment-requires
 segment-requires c κs = search needs
@@ -21,15 +21,15 @@ returns-2 c =
     let s = c .before .before .before .before .before .args in
     (c .segment .ensures .0 ∙ sym (inside (s .a) (s .b) _ (s .x) (omega arith) (omega arith)), c .segment .ensures .1)
 
-level-requires-2 : tie.Need-level-requires-2
-level-requires-2 c κs = search needs
+row-limit-requires-2 : tie.Need-row-limit-requires-2
+row-limit-requires-2 c κs = search needs
 
 returns-3 : tie.Need-returns-3
 returns-3 c =
     let s = c .before .before .before .before .before .args in
-    (c .level2 .ensures .0 ∙ sym (past (s .a) (s .b) _ (s .x) (omega arith) (omega arith) ∙ alone (s .b) (s .x)), c .level2 .ensures .1)
+    (c .row-limit2 .ensures .0 ∙ sym (past (s .a) (s .b) _ (s .x) (omega arith) (omega arith) ∙ alone (s .b) (s .x)), c .row-limit2 .ensures .1)
 
 pub over-two-spec : {M : Type 1} → statement M
 over-two-spec =
     tie.close
-    (tie.spec level-requires returns segment-requires returns-2 level-requires-2 returns-3)
+    (tie.spec row-limit-requires returns segment-requires returns-2 row-limit-requires-2 returns-3)

@@ -5,13 +5,13 @@ use borrow.Author.Needs.{needs}
 use lib.ListN.{length, drop, getD}
 use mathlib.Core.List.{[], _∷_}
 use Rattle.reading.specs.Spelling.{spelled}
-use Rattle.report.specs.Line.{fields, stamped}
-use Rattle.report.proofs.Stamps.{kept-length, fields-next, fields-end, line-done}
+use Rattle.report.specs.Line.{printedNumbers, stamped}
+use Rattle.report.proofs.Stamps.{kept-length, printed-numbers-next, printed-numbers-end, line-done}
 use Rattle.report.proofs.line.put_line.Statement.{statement}
 use Rattle.report.proofs.line.put_line.Tie as tie
 
 abbrev Inv-loop : tie.InvT-loop
-Inv-loop out₀ at tag values p₀ i₀ t7 out p i = (i ≤ length values) × (p ≡ p₀ + 12 * i) × (length out ≡ length out₀) × (stamped out p (fields (drop i values)) ≡ stamped out₀ p₀ (fields values))
+Inv-loop out₀ at tag values p₀ i₀ t7 out p i = (i ≤ length values) × (p ≡ p₀ + 12 * i) × (length out ≡ length out₀) × (stamped out p (printedNumbers (drop i values)) ≡ stamped out₀ p₀ (printedNumbers values))
 
 abbrev μ-loop : tie.MeasureT-loop
 μ-loop out₀ at tag values p₀ i₀ t7 out p i = length values - i
@@ -50,7 +50,7 @@ loop-again c =
       omega arith,
       omega (arith, f .ensures .0, l .inv .1),
       kept-length (f .last .0) (l .out) (l .p) (spelled 12 32 (getD (a .values .now) (l .i) 0)) (f .ensures .1) ∙ l .inv .2,
-      fields-next (l .out) _ (f .last .0) (a .values .now) (l .p) (f .result) (l .i) (l .inv .3) (c .before .before .before .before .before .loop-test .taken) (f .ensures .1) (f .ensures .0),
+      printed-numbers-next (l .out) _ (f .last .0) (a .values .now) (l .p) (f .result) (l .i) (l .inv .3) (c .before .before .before .before .before .loop-test .taken) (f .ensures .1) (f .ensures .0),
     )
 
 slice-aggregate-put-text : tie.Need-slice-aggregate-put-text Inv-loop μ-loop
@@ -80,7 +80,7 @@ returns c =
     let d : length (a .values .now) ≡ l .i = omega (arith, l .inv .0, c .before .before .before .before .before .loop-test .left) in (
       omega (arith, e .ensures .0, l .inv .1, t .ensures .0, d),
       line-done (a .out .now) (t .last .0) (l .out) (e .last .0) (a .tag .now) (a .values .now) (10 ∷ []) (a .at) (t .result) (l .p) (t .ensures .1) (t .ensures .0)
-          (fields-end (l .out) _ (a .values .now) (l .p) (l .i) (l .inv .3) (c .before .before .before .before .before .loop-test .left)) (omega (arith, l .inv .1, d)) (e .ensures .1) refl,
+          (printed-numbers-end (l .out) _ (a .values .now) (l .p) (l .i) (l .inv .3) (c .before .before .before .before .before .loop-test .left)) (omega (arith, l .inv .1, d)) (e .ensures .1) refl,
     )
 
 pub put-line-spec : {M : Type 1} → statement M

@@ -103,7 +103,7 @@ answers κs qs a good pre bs =
               (
                 (refl, refl, omega arith),
                 λ _. (
-                  λ _. (record { level = pre .0; good = member-good (a .1 .1 .0) (a .1 .1 .1 .0) (a .1 .1 .1 .1 .0 .now) (pre .1) (vs .2) l }, omega arith),
+                  λ _. (record { knowledge-level = pre .0; good = member-good (a .1 .1 .0) (a .1 .1 .1 .0) (a .1 .1 .1 .1 .0 .now) (pre .1) (vs .2) l }, omega arith),
                   λ g. (
                     refl,
                     λ back. (

@@ -2,7 +2,7 @@ use Prim.Native.Nat.{ℕ, _+_, _*_, _-_, _≤_}
 use native.Mathlib.Omega.{arith}
 use lib.ListN.{length}
 use borrow.Author.Tests.{ltb-true, ltb-false}
-use Rattle.storeys.specs.Building.{noStorey, storeyAt, membersBefore}
+use Rattle.storeys.specs.Building.{noStorey, storeyIn, membersBefore}
 use Rattle.report.specs.Line.{stamped}
 use Rattle.report.specs.Sheet.{storeyLines, storeysLines}
 use Rattle.report.proofs.Survey.{members-most, part-clear, part-size, part-ends, all-printed, storeys-next, storeys-end}
@@ -178,7 +178,7 @@ answers κs qs a good pre bs = (
                                                 omega (arith, g .5 .0, inv .2, part-size (a .1 .0) (a .1 .1 .0 .now) (a .1 .1 .1 .0 .now) (pre .0) (k .1) (vs .3) (vs .2) (c .1) (k .5) l (inv .1) (c .5)),
                                                 back ∙ inv .3,
                                                 storeys-next (k .1) (a .1 .1 .0 .now) (a .1 .1 .1 .0 .now) (vs .0) _ (g .2 .0) (vs .1) (g .1) (vs .3) (inv .4) l
-                                                    (g .5 .1 ∙ ap (λ (part : List _). stamped (vs .0) (vs .1) (storeyLines (k .1) (storeyAt (a .1 .1 .0 .now) (vs .3)) part)) (part-is (a .1 .1 .0 .now) (a .1 .1 .1 .0 .now) (vs .3) (vs .2) (c .1) (inv .1) (c .5)))
+                                                    (g .5 .1 ∙ ap (λ (part : List _). stamped (vs .0) (vs .1) (storeyLines (k .1) (storeyIn (a .1 .1 .0 .now) (vs .3)) part)) (part-is (a .1 .1 .0 .now) (a .1 .1 .1 .0 .now) (vs .3) (vs .2) (c .1) (inv .1) (c .5)))
                                                     (g .5 .0 ∙ ap (λ (part : List _). vs .1 + (86 * length part + 74)) (part-is (a .1 .1 .0 .now) (a .1 .1 .1 .0 .now) (vs .3) (vs .2) (c .1) (inv .1) (c .5))),
                                               ),
                                               refl,
