@@ -18,7 +18,7 @@ use Rattle.report.specs.Line.{atFront, putLength}
 use Rattle.report.specs.Sheet.{sheet, refusalLine, reportFault, reportAnswer, bufferAfter}
 use Rattle.reading.specs.First.{every}
 use Rattle.reading.specs.Records.{headerFault}
-use Rattle.storeys.specs.Totals.{total}
+use Rattle.reading.specs.Totals.{total}
 use Rattle.storeys.specs.Building.{buildingFault, countsFault}
 use Rattle.report.proofs.Called.{sheet-fits}
 use Rattle.determination.specs.Answers.{blank, headerTold, membersTold, lengthBy, bytesBy, lengthTold, bytesTold}

@@ -12,7 +12,7 @@ use borrow.Author.Tests.{eqb-true, ltb-true, ltb-false}
 use Rattle.reading.specs.First.{pick, inOrder}
 use Rattle.reading.specs.Records.{storeyFault, memberFault}
 use Rattle.reading.specs.Lines.{shaped, fieldsFault, headerAt}
-use Rattle.reading.specs.Survey.{place, lineNumber, membersBefore, storey, memberPlace, member, shape, unheld, repeated, headerLine, storeyLine, memberLine, noFault, at-line, firstFault, membersFault, storeysFault, trailing, surveyFault, listed, membersOf, survey, placed, filledMembers}
+use Rattle.reading.specs.Survey.{lineStart, lineNumber, membersBefore, storey, memberStart, member, shape, unheld, repeated, headerLineFault, storeyLineFault, memberLineFault, noFault, at-line, firstFault, membersFault, storeysFault, trailing, surveyFault, listed, firstMembers, survey, placed, filledMembers}
 use Rattle.reading.specs.Checks.{Fits}
 use Rattle.reading.specs.Answer.{told, storeysTold, storeysAfter, membersAfter}
 use Rattle.reading.specs.declared.records.Storey.{Storey}
@@ -43,41 +43,41 @@ line-clear l zero e = refl
 line-clear l (suc r) e = simp eqb·suc-zero at e
 
 module _ (s : List ℕ) (rows i : ℕ) where
-  storey-good : storeyLine s rows i ≡ 0 → (place i (membersBefore s i) + 26 ≤ length s) × (i < rows) × (storey s i .count ≤ 200)
-  unfolding storeyLine
+  storey-good : storeyLineFault s rows i ≡ 0 → (lineStart i (membersBefore s i) + 26 ≤ length s) × (i < rows) × (storey s i .count ≤ 200)
+  unfolding storeyLineFault
   storey-good e =
-      let at = place i (membersBefore s i) in
+      let at = lineStart i (membersBefore s i) in
       let a = five-clear (shape S s at) (unheld i rows) (fieldsFault S s at) (storeyFault (storey s i)) (repeated (λ k. storey s k .number) i) e in
       (omega (arith, shaped-fits S s at (test-clear (shaped S (drop at s)) 1 (omega arith) (a .0))), ltb-true i rows (test-clear (ltb i rows) 8 (omega arith) (a .1)), count-most (storey s i) (a .3))
 
-  member-good : (j : ℕ) → memberLine s rows i j ≡ 0 → (memberPlace s i j + 210 ≤ length s) × (membersBefore s i + j < rows)
-  unfolding memberLine
+  member-good : (j : ℕ) → memberLineFault s rows i j ≡ 0 → (memberStart s i j + 210 ≤ length s) × (membersBefore s i + j < rows)
+  unfolding memberLineFault
   member-good j e =
-      let at = memberPlace s i j in
+      let at = memberStart s i j in
       let a = five-clear (shape M s at) (unheld (membersBefore s i + j) rows) (fieldsFault M s at) (memberFault (member s i j)) (repeated (λ k. member s i k .number) j) e in
       (omega (arith, shaped-fits M s at (test-clear (shaped M (drop at s)) 1 (omega arith) (a .0))), ltb-true (membersBefore s i + j) rows (test-clear (ltb (membersBefore s i + j) rows) 8 (omega arith) (a .1)))
 
 -- ---- a storey without a refusal: its lines lie within the file, and there are rows for its members
 module _ (s : List ℕ) (srows mrows i : ℕ) (e : storeysFault s srows mrows i .number ≡ 0) where
-  clear-both : (at-line (lineNumber i (membersBefore s i)) (storeyLine s srows i) .number ≡ 0) × (membersFault s mrows i .number ≡ 0)
+  clear-both : (at-line (lineNumber i (membersBefore s i)) (storeyLineFault s srows i) .number ≡ 0) × (membersFault s mrows i .number ≡ 0)
   unfolding storeysFault
   clear-both =
-      let f = at-line (lineNumber i (membersBefore s i)) (storeyLine s srows i) in
+      let f = at-line (lineNumber i (membersBefore s i)) (storeyLineFault s srows i) in
       let c = step-clear (λ (f : Fault). f .number) (eqb (f .number) 0) (membersFault s mrows i) f refl e in
       (c .1, c .0)
 
-  pub storey-held : (place i (membersBefore s i) + 26 ≤ length s) × (i < srows) × (storey s i .count ≤ 200)
+  pub storey-held : (lineStart i (membersBefore s i) + 26 ≤ length s) × (i < srows) × (storey s i .count ≤ 200)
   storey-held = storey-good s srows i (line-clear _ _ (clear-both .0))
 
-  member-held : (j : ℕ) → j < storey s i .count → (memberPlace s i j + 210 ≤ length s) × (membersBefore s i + j < mrows)
+  member-held : (j : ℕ) → j < storey s i .count → (memberStart s i j + 210 ≤ length s) × (membersBefore s i + j < mrows)
   unfolding membersFault
   member-held j h = member-good s mrows i j (line-clear _ _ (first-clear noFault (λ f. f .number) _ (storey s i .count) j (clear-both .1) h))
 
-  last-member : (c : ℕ) → c ≡ storey s i .count → (place (i + 1) (membersBefore s i + c) ≤ length s) × (membersBefore s i ≤ mrows → membersBefore s i + c ≤ mrows)
+  last-member : (c : ℕ) → c ≡ storey s i .count → (lineStart (i + 1) (membersBefore s i + c) ≤ length s) × (membersBefore s i ≤ mrows → membersBefore s i + c ≤ mrows)
   last-member zero q = (omega (arith, storey-held .0), λ h. omega arith)
   last-member (suc c) q = let m = member-held c (omega arith) in (omega (arith, m .0), λ h. omega (arith, m .1))
 
-  pub lines-held : place (i + 1) (membersBefore s (i + 1)) ≤ length s
+  pub lines-held : lineStart (i + 1) (membersBefore s (i + 1)) ≤ length s
   lines-held = rw (before-suc s i) (last-member (storey s i .count) refl .0)
 
   pub members-held : membersBefore s i ≤ mrows → membersBefore s (i + 1) ≤ mrows
@@ -106,14 +106,14 @@ module _ (s : List ℕ) (srows mrows : ℕ) where
 
   -- ---- a file without a refusal
   module _ (z : surveyFault s srows mrows .number ≡ 0) where
-    header-clear : headerLine s ≡ 0
+    header-clear : headerLineFault s ≡ 0
     unfolding surveyFault
-    header-clear = line-clear _ _ (step-clear (λ (f : Fault). f .number) (eqb (at-line 1 (headerLine s) .number) 0) _ (at-line 1 (headerLine s)) refl z .1)
+    header-clear = line-clear _ _ (step-clear (λ (f : Fault). f .number) (eqb (at-line 1 (headerLineFault s) .number) 0) _ (at-line 1 (headerLineFault s)) refl z .1)
 
     all-clear : Clear (headerAt s 0 .count)
     unfolding surveyFault Clear
     all-clear i l =
-        let a = step-clear (λ (f : Fault). f .number) (eqb (at-line 1 (headerLine s) .number) 0) _ (at-line 1 (headerLine s)) refl z .0 in
+        let a = step-clear (λ (f : Fault). f .number) (eqb (at-line 1 (headerLineFault s) .number) 0) _ (at-line 1 (headerLineFault s)) refl z .0 in
         let f = firstFault (storeysFault s srows mrows) (headerAt s 0 .count) in
         let b = step-clear (λ (f : Fault). f .number) (eqb (f .number) 0) (trailing s (headerAt s 0 .count)) f refl a .1 in
         first-clear noFault (λ f. f .number) (storeysFault s srows mrows) (headerAt s 0 .count) i b l
@@ -143,13 +143,13 @@ module _ {A : Type 0} (f : ℕ → A) (d : A) where
 drop-past : {A : Type 0} (xs ys : List A) (m c : ℕ) → length xs ≡ m → drop (m + c) (xs ++ ys) ≡ drop c ys
 drop-past xs ys m c p = rw (← p) (drop-append-add xs ys c)
 
-filled-listed : (s : List ℕ) (d : Member) (n : ℕ) (rows : List Member) → membersBefore s n ≤ length rows → filledMembers s n rows ≡ membersOf s n ++ drop (membersBefore s n) rows
-unfolding filledMembers membersOf membersBefore
+filled-listed : (s : List ℕ) (d : Member) (n : ℕ) (rows : List Member) → membersBefore s n ≤ length rows → filledMembers s n rows ≡ firstMembers s n ++ drop (membersBefore s n) rows
+unfolding filledMembers firstMembers membersBefore
 filled-listed s d zero rows h = refl
 filled-listed s d (suc i) rows h =
     let m = membersBefore s i in
     let c = storey s i .count in
-    let front = membersOf s i in
+    let front = firstMembers s i in
     let back = drop (membersBefore s i) rows in
     let p : length front ≡ m = length-members s i in
     let q : m + c ≤ length (front ++ back) = rw (length-append front back, p, length-drop m rows) (omega arith) in
@@ -207,31 +207,31 @@ no-trail false l e = refl
 
 module _ (s : List ℕ) (srows mrows : ℕ) (z : surveyFault s srows mrows .number ≡ 0) where
   pub header-clean : Clean B s 0
-  unfolding headerLine
+  unfolding headerLineFault
   header-clean =
       let e = header-clear s srows mrows z in
       let l = pick-both (shape B s 0) _ e in
       record { form = test-clear (shaped B (drop 0 s)) 1 (omega arith) (pick-clear (shape B s 0) _ e); written = pick-clear (fieldsFault B s 0) _ l }
 
   module _ (i : ℕ) (h : i < headerAt s 0 .count) where
-    pub storey-clean : Clean S s (place i (membersBefore s i))
-    unfolding storeyLine Clear
+    pub storey-clean : Clean S s (lineStart i (membersBefore s i))
+    unfolding storeyLineFault Clear
     storey-clean =
-        let e = line-clear (lineNumber i (membersBefore s i)) (storeyLine s srows i) (clear-both s srows mrows i (all-clear s srows mrows z i h) .0) in
-        line-clean S s (place i (membersBefore s i)) (unheld i srows) (storeyFault (storey s i)) (repeated (λ k. storey s k .number) i) e
+        let e = line-clear (lineNumber i (membersBefore s i)) (storeyLineFault s srows i) (clear-both s srows mrows i (all-clear s srows mrows z i h) .0) in
+        line-clean S s (lineStart i (membersBefore s i)) (unheld i srows) (storeyFault (storey s i)) (repeated (λ k. storey s k .number) i) e
 
-    pub member-clean : (j : ℕ) → j < storey s i .count → Clean M s (memberPlace s i j)
-    unfolding memberLine membersFault Clear
+    pub member-clean : (j : ℕ) → j < storey s i .count → Clean M s (memberStart s i j)
+    unfolding memberLineFault membersFault Clear
     member-clean j l =
         let e = first-clear noFault (λ f. f .number) _ (storey s i .count) j (clear-both s srows mrows i (all-clear s srows mrows z i h) .1) l in
-        line-clean M s (memberPlace s i j) (unheld (membersBefore s i + j) mrows) (memberFault (member s i j)) (repeated (λ k. member s i k .number) j)
-        (line-clear (lineNumber (i + 1) (membersBefore s i + j)) (memberLine s mrows i j) e)
+        line-clean M s (memberStart s i j) (unheld (membersBefore s i + j) mrows) (memberFault (member s i j)) (repeated (λ k. member s i k .number) j)
+        (line-clear (lineNumber (i + 1) (membersBefore s i + j)) (memberLineFault s mrows i j) e)
 
-  pub nothing-after : length s ≤ place (headerAt s 0 .count) (membersBefore s (headerAt s 0 .count))
+  pub nothing-after : length s ≤ lineStart (headerAt s 0 .count) (membersBefore s (headerAt s 0 .count))
   unfolding surveyFault
   nothing-after =
       let n = headerAt s 0 .count in
-      let a = step-clear (λ (f : Fault). f .number) (eqb (at-line 1 (headerLine s) .number) 0) _ (at-line 1 (headerLine s)) refl z .0 in
+      let a = step-clear (λ (f : Fault). f .number) (eqb (at-line 1 (headerLineFault s) .number) 0) _ (at-line 1 (headerLineFault s)) refl z .0 in
       let f = firstFault (storeysFault s srows mrows) n in
       let b = step-clear (λ (f : Fault). f .number) (eqb (f .number) 0) (trailing s n) f refl a .0 in
-      ltb-false (place n (membersBefore s n)) (length s) (no-trail _ (lineNumber n (membersBefore s n)) b)
+      ltb-false (lineStart n (membersBefore s n)) (length s) (no-trail _ (lineNumber n (membersBefore s n)) b)

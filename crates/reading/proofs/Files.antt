@@ -14,7 +14,7 @@ use borrow.Author.Tests.{eq-eqb, ne-eqb, lt-ltb, le-ltb, leb-true}
 use Rattle.reading.specs.First.{pick, any, every, inOrder}
 use Rattle.reading.specs.Records.{inRange, storeyValues, storeyFault}
 use Rattle.reading.specs.Lines.{fieldsFault}
-use Rattle.reading.specs.Survey.{place, lineNumber, membersBefore, storey, shape, unheld, repeated, storeyLine, noFault, or-else, firstFault, membersFault, storeysFault, trailing}
+use Rattle.reading.specs.Survey.{lineStart, lineNumber, membersBefore, storey, shape, unheld, repeated, storeyLineFault, noFault, or-else, firstFault, membersFault, storeysFault, trailing}
 use Rattle.reading.specs.Checks.{storeyFirst, StoreyLineOf, MembersDue, CheckedOf}
 use Rattle.reading.specs.declared.records.Storey.{Storey}
 use Rattle.reading.specs.declared.records.Tag.the-variants.{S}
@@ -55,19 +55,19 @@ module _ (s : List ℕ) (n srows mrows : ℕ) where
         clear = ap (λ (g : Fault). g .number) (first-none noFault (λ f. f .number) (storeysFault s srows mrows));
       }
 
-  module _ (numbers : List ℕ) (i m : ℕ) (u : Begun s n srows mrows numbers i m) (h : i < n) (at : ℕ) (l : StoreyLine) (at-is : at ≡ place i m) (o : StoreyLineOf s at (ltb i srows) l) (x f : ℕ)
+  module _ (numbers : List ℕ) (i m : ℕ) (u : Begun s n srows mrows numbers i m) (h : i < n) (at : ℕ) (l : StoreyLine) (at-is : at ≡ lineStart i m) (o : StoreyLineOf s at (ltb i srows) l) (x f : ℕ)
       (xi : x ≡ pick (any (λ (e : ℕ). eqb (getD numbers e 0) (l .storey .number)) i) 5 0) (fi : f ≡ pick (eqb (l .fault) 0) x (l .fault)) where
-    place-is : at ≡ place i (membersBefore s i)
+    place-is : at ≡ lineStart i (membersBefore s i)
     place-is = omega (arith, u .before, at-is)
 
-    first-is : l .fault ≡ storeyFirst s (place i (membersBefore s i)) (ltb i srows)
+    first-is : l .fault ≡ storeyFirst s (lineStart i (membersBefore s i)) (ltb i srows)
     first-is = rw (← place-is) (o .fault)
 
     storey-is : l .fault ≡ 0 → l .storey ≡ storey s i
     storey-is z = rw (← place-is) (o .holds z)
 
-    fault-is : f ≡ storeyLine s srows i
-    unfolding storeyLine
+    fault-is : f ≡ storeyLineFault s srows i
+    unfolding storeyLineFault
     fault-is =
         fi
         ∙ by-first (l .fault) x (repeated (λ e. storey s e .number) i)
@@ -75,7 +75,7 @@ module _ (s : List ℕ) (n srows mrows : ℕ) where
         ∙ rw first-is
         (sym
         (in-order-last
-        (shape S s (place i (membersBefore s i)) ∷ unheld i srows ∷ fieldsFault S s (place i (membersBefore s i)) ∷ storeyFault (storey s i) ∷ [])
+        (shape S s (lineStart i (membersBefore s i)) ∷ unheld i srows ∷ fieldsFault S s (lineStart i (membersBefore s i)) ∷ storeyFault (storey s i) ∷ [])
         (repeated (λ e. storey s e .number) i)))
 
     next-is : firstFault (storeysFault s srows mrows) (i + 1) ≡ storeysFault s srows mrows i
@@ -104,8 +104,8 @@ module _ (s : List ℕ) (n srows mrows : ℕ) where
       pub is-due : (count : ℕ) → count ≡ l .storey .count → MembersDue s i m count
       is-due count e =
           let st = storey-is good in
-          let v = pick-both (inOrder (shape S s (place i (membersBefore s i)) ∷ unheld i srows ∷ fieldsFault S s (place i (membersBefore s i)) ∷ [])) (storeyFault (storey s i))
-          (sym (in-order-last (shape S s (place i (membersBefore s i)) ∷ unheld i srows ∷ fieldsFault S s (place i (membersBefore s i)) ∷ []) (storeyFault (storey s i))) ∙ sym first-is ∙ good) in
+          let v = pick-both (inOrder (shape S s (lineStart i (membersBefore s i)) ∷ unheld i srows ∷ fieldsFault S s (lineStart i (membersBefore s i)) ∷ [])) (storeyFault (storey s i))
+          (sym (in-order-last (shape S s (lineStart i (membersBefore s i)) ∷ unheld i srows ∷ fieldsFault S s (lineStart i (membersBefore s i)) ∷ []) (storeyFault (storey s i))) ∙ sym first-is ∙ good) in
           let q : count ≡ storey s i .count = e ∙ ap (λ (b : Storey). b .count) st in
           record {
             storeys = omega (arith, u .storeys);
@@ -138,7 +138,7 @@ module _ (s : List ℕ) (n srows mrows : ℕ) where
             clear = ap (λ (g : Fault). g .number) (next-is ∙ goes-on g e) ∙ y;
           }
 
-  module _ (numbers : List ℕ) (i m : ℕ) (u : Begun s n srows mrows numbers i m) (h : n ≤ i) (at : ℕ) (at-is : at ≡ place n m) where
+  module _ (numbers : List ℕ) (i m : ℕ) (u : Begun s n srows mrows numbers i m) (h : n ≤ i) (at : ℕ) (at-is : at ≡ lineStart n m) where
     all : i ≡ n
     all = omega (arith, u .turn)
 
@@ -150,11 +150,11 @@ module _ (s : List ℕ) (n srows mrows : ℕ) where
 
     pub more-bytes : (w : ℕ) → at < length s → w ≡ 2 + n + m → CheckedOf s n srows mrows (record { number = 6; line = w; members = m })
     more-bytes w l q =
-        let p : place n (membersBefore s n) < length s = omega (arith, before-all, at-is) in
+        let p : lineStart n (membersBefore s n) < length s = omega (arith, before-all, at-is) in
         let k : w ≡ lineNumber n (membersBefore s n) = omega (arith, before-all, q) in
         record { fault = ends _ (rw (lt-ltb _ _ p, k)); members = λ z. before-all }
 
     pub no-more : length s ≤ at → CheckedOf s n srows mrows (record { number = 0; line = 0; members = m })
     no-more l =
-        let p : length s ≤ place n (membersBefore s n) = omega (arith, before-all, at-is) in
+        let p : length s ≤ lineStart n (membersBefore s n) = omega (arith, before-all, at-is) in
         record { fault = ends _ (rw (le-ltb _ _ p)); members = λ z. before-all }

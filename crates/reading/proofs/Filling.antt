@@ -8,7 +8,7 @@ use mathlib.Core.Logic.{⊎-elim}
 use mathlib.Core.Path.{_≡_, refl, ap, sym, _∙_}
 use lib.ListN.{length}
 use Rattle.reading.specs.Lines.{storeyAt, memberAt}
-use Rattle.reading.specs.Survey.{place, membersBefore, storey, member, placed, filledMembers}
+use Rattle.reading.specs.Survey.{lineStart, membersBefore, storey, member, placed, filledMembers}
 use Rattle.reading.specs.Checks.{Fits}
 use Rattle.reading.specs.declared.records.Storey.{Storey}
 use Rattle.reading.specs.declared.records.Member.{Member}
@@ -39,14 +39,14 @@ module _ (s : List ℕ) (n : ℕ) (f : Fits s n) where
   before-small (suc i) h = omega (arith, before-small i (omega arith), f .counts i h)
 
   module _ (i m : ℕ) (h : i < n) (e : m ≡ membersBefore s i) where
-    pub storey-lies : (i ≤ 10) × (m ≤ 2000) × (place i m + 26 ≤ length s)
+    pub storey-lies : (i ≤ 10) × (m ≤ 2000) × (lineStart i m + 26 ≤ length s)
     storey-lies =
         let b = before-small i (omega arith) in
         let l = f .lines i h in
         let q = before-suc s i in
         (omega (arith, f .storeys), omega (arith, f .storeys), omega arith)
 
-    module _ (r : Storey) (c : ℕ) (g : r ≡ storeyAt s (place i m)) (k : c ≡ r .count) where
+    module _ (r : Storey) (c : ℕ) (g : r ≡ storeyAt s (lineStart i m)) (k : c ≡ r .count) where
       pub storey-is : r ≡ storey s i
       storey-is = rw (← e) g
 
@@ -56,7 +56,7 @@ module _ (s : List ℕ) (n : ℕ) (f : Fits s n) where
       pub before-next : m + c ≡ membersBefore s (i + 1)
       before-next = omega (arith, before-suc s i, count-is)
 
-      pub members-lie : (rows : ℕ) → membersBefore s n ≤ rows → (i ≤ 9) × (m + c ≤ 2000) × (place (i + 1) (m + c) ≤ length s) × (m + c ≤ rows)
+      pub members-lie : (rows : ℕ) → membersBefore s n ≤ rows → (i ≤ 9) × (m + c ≤ 2000) × (lineStart (i + 1) (m + c) ≤ length s) × (m + c ≤ rows)
       members-lie rows t =
           let b = before-small i (omega arith) in
           let l = f .lines i h in
@@ -67,7 +67,7 @@ module _ (s : List ℕ) (n : ℕ) (f : Fits s n) where
       pub next-small : m + c ≤ 2000
       next-small = members-lie (membersBefore s n) (le-refl _) .1
 
-      pub filled-next : (rows now after : List Member) → now ≡ filledMembers s i rows → after ≡ placed (λ (j : ℕ). memberAt s (place (i + 1) (m + j))) m c now → after ≡ filledMembers s (i + 1) rows
+      pub filled-next : (rows now after : List Member) → now ≡ filledMembers s i rows → after ≡ placed (λ (j : ℕ). memberAt s (lineStart (i + 1) (m + j))) m c now → after ≡ filledMembers s (i + 1) rows
       filled-next rows now after p q = q ∙ rw (p, e, count-is) (sym (filled-suc s i rows))
 
 pub filled-none : (s : List ℕ) (rows : List Member) → rows ≡ filledMembers s 0 rows

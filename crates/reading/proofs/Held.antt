@@ -12,7 +12,7 @@ use Rattle.reading.specs.First.{pick, every}
 use Rattle.reading.specs.Records.{fields, inRange, headerValues, storeyValues, memberValues, headerFault, storeyFault, memberFault}
 use Rattle.reading.specs.Lines.{tagByte, lineEnd, shaped, valueAt, fieldsFault, headerBy, storeyBy, memberBy, headerAt, storeyAt, memberAt}
 use Rattle.reading.specs.Field.{FieldsOf}
-use Rattle.reading.specs.Survey.{shape, headerLine}
+use Rattle.reading.specs.Survey.{shape, headerLineFault}
 use Rattle.reading.specs.Checks.{HeaderLineOf, StoreyLineOf, MemberGood, MemberLineOf}
 use Rattle.reading.specs.declared.survey.MemberLine.{MemberLine}
 use Rattle.reading.specs.declared.records.Header.{Header}
@@ -144,11 +144,11 @@ member-unwritten s at r e =
 
 -- ---- the first refusal of a line
 pub header-unshaped : (s : List ℕ) (h : Header) → shaped B (drop 0 s) ≡ false → HeaderLineOf s (record { fault = 1; header = h })
-unfolding headerLine
+unfolding headerLineFault
 header-unshaped s h e = record { fault = rw e; holds = λ z. let y : ⊥ = omega (arith, z) in absurd y }
 
 pub header-shaped : (s : List ℕ) (f : Fields) (h : Header) (x r : ℕ) → shaped B (drop 0 s) ≡ true → FieldsOf B s 0 f → h ≡ headerBy (λ (j : ℕ). getD (f .values) j 0) → x ≡ headerFault h → r ≡ pick (eqb (fieldsFault B s 0) 0) x (fieldsFault B s 0) → HeaderLineOf s (record { fault = r; header = h })
-unfolding headerLine
+unfolding headerLineFault
 header-shaped s f h x r e o g k l =
     let p = header-held s 0 (f .values) h (o .values) g in
     record { fault = l ∙ rw (e, k, p, last-of (headerFault (headerAt s 0))); holds = λ z. p }

@@ -11,7 +11,7 @@ use borrow.Author.Tests.{leb-true, eq-eqb, ne-eqb}
 use Rattle.reading.specs.First.{pick, every, any, inOrder, first}
 use Rattle.reading.specs.Records.{Allowed, allows, fields, inRange, headerValues, storeyValues, memberValues, headerFault, storeyFault, memberFault}
 use Rattle.reading.specs.Lines.{shaped, faultIn, fieldAt, fieldFault, fieldsFault, headerAt}
-use Rattle.reading.specs.Survey.{place, lineNumber, membersBefore, storey, memberPlace, member, shape, unheld, repeated, headerLine, storeyLine, memberLine, noFault, at-line, or-else, firstFault, membersFault, storeysFault, trailing, surveyFault, listed, membersOf, survey}
+use Rattle.reading.specs.Survey.{lineStart, lineNumber, membersBefore, storey, memberStart, member, shape, unheld, repeated, headerLineFault, storeyLineFault, memberLineFault, noFault, at-line, or-else, firstFault, membersFault, storeysFault, trailing, surveyFault, listed, firstMembers, survey}
 use Rattle.reading.specs.Checks.{CheckedOf}
 use Rattle.reading.specs.Answer.{told, filled, refusal}
 use Rattle.reading.specs.declared.records.Header.{Header}
@@ -71,8 +71,8 @@ member-most : (m : Member) → memberFault m ≤ 8
 unfolding memberFault
 member-most m = pick-most (every (inRange M (memberValues m)) 26) _ 3 8 (pick-most (leb (m .short) (m .long)) 0 4 8 (omega arith) (omega arith)) (omega arith)
 
-header-line-most : (s : List ℕ) → headerLine s ≤ 8
-unfolding headerLine
+header-line-most : (s : List ℕ) → headerLineFault s ≤ 8
+unfolding headerLineFault
 header-line-most s = order-most 8 (and (shape-most B s 0) (and (fields-most B s 0) (and (header-most (headerAt s 0)) no)))
 
 row-most : (k rows : ℕ) → unheld k rows ≤ 8
@@ -81,15 +81,15 @@ row-most k rows = pick-most (ltb k rows) 0 8 8 (omega arith) (omega arith)
 repeated-most : (number : ℕ → ℕ) (k : ℕ) → repeated number k ≤ 8
 repeated-most number k = pick-most (any (λ e. eqb (number e) (number k)) k) 5 0 8 (omega arith) (omega arith)
 
-storey-line-most : (s : List ℕ) (rows i : ℕ) → storeyLine s rows i ≤ 8
-unfolding storeyLine
+storey-line-most : (s : List ℕ) (rows i : ℕ) → storeyLineFault s rows i ≤ 8
+unfolding storeyLineFault
 storey-line-most s rows i =
-    order-most 8 (and (shape-most S s (place i (membersBefore s i))) (and (row-most i rows) (and (fields-most S s (place i (membersBefore s i))) (and (storey-most (storey s i)) (and (repeated-most (λ e. storey s e .number) i) no)))))
+    order-most 8 (and (shape-most S s (lineStart i (membersBefore s i))) (and (row-most i rows) (and (fields-most S s (lineStart i (membersBefore s i))) (and (storey-most (storey s i)) (and (repeated-most (λ e. storey s e .number) i) no)))))
 
-member-line-most : (s : List ℕ) (rows i j : ℕ) → memberLine s rows i j ≤ 8
-unfolding memberLine
+member-line-most : (s : List ℕ) (rows i j : ℕ) → memberLineFault s rows i j ≤ 8
+unfolding memberLineFault
 member-line-most s rows i j =
-    order-most 8 (and (shape-most M s (memberPlace s i j)) (and (row-most (membersBefore s i + j) rows) (and (fields-most M s (memberPlace s i j)) (and (member-most (member s i j)) (and (repeated-most (λ e. member s i e .number) j) no)))))
+    order-most 8 (and (shape-most M s (memberStart s i j)) (and (row-most (membersBefore s i + j) rows) (and (fields-most M s (memberStart s i j)) (and (member-most (member s i j)) (and (repeated-most (λ e. member s i e .number) j) no)))))
 
 line-most : (l r : ℕ) → r ≤ 8 → at-line l r .number ≤ 8
 line-most l r h = either-most (λ (f : Fault). f .number) 8 (eqb r 0) noFault (record { number = r; line = l }) (omega arith) h
@@ -106,13 +106,13 @@ storeys-most s srows mrows i =
 after-most : (s : List ℕ) (n srows mrows : ℕ) → or-else (firstFault (storeysFault s srows mrows) n) (trailing s n) .number ≤ 8
 after-most s n srows mrows =
     else-most _ (trailing s n) (first-most 8 noFault (λ f. f .number) (storeysFault s srows mrows) n (omega arith) (storeys-most s srows mrows))
-    (either-most (λ (f : Fault). f .number) 8 (ltb (place n (membersBefore s n)) (length s)) (record { number = 6; line = lineNumber n (membersBefore s n) }) noFault (omega arith) (omega arith))
+    (either-most (λ (f : Fault). f .number) 8 (ltb (lineStart n (membersBefore s n)) (length s)) (record { number = 6; line = lineNumber n (membersBefore s n) }) noFault (omega arith) (omega arith))
 
 -- ---- what the check of a file asks
 pub some-number : (x : ℕ) → (x ≡ 0 → ⊥) → x ≤ 8 → (1 ≤ x) × (x ≤ 10)
 some-number x ne h = (omega arith, omega arith)
 
-pub header-number : (s : List ℕ) (x : ℕ) → x ≡ headerLine s → (x ≡ 0 → ⊥) → (1 ≤ x) × (x ≤ 10)
+pub header-number : (s : List ℕ) (x : ℕ) → x ≡ headerLineFault s → (x ≡ 0 → ⊥) → (1 ≤ x) × (x ≤ 10)
 header-number s x e ne = some-number x ne (omega (arith, header-line-most s))
 
 pub checked-number : (s : List ℕ) (n srows mrows : ℕ) (r : Checked) → CheckedOf s n srows mrows r → (r .number ≡ 0 → ⊥) → (1 ≤ r .number) × (r .number ≤ 10)
@@ -130,8 +130,8 @@ ten h e =
     let b = leb-true (h .count) (h .storeys) (and-right (leb 1 (h .count)) (leb (h .count) (h .storeys)) (every-at (inRange B (headerValues h)) 6 5 (o .0) (omega arith))) in
     omega arith
 
-pub ten-storeys : (s : List ℕ) → headerLine s ≡ 0 → headerAt s 0 .count ≤ 10
-unfolding headerLine
+pub ten-storeys : (s : List ℕ) → headerLineFault s ≡ 0 → headerAt s 0 .count ≤ 10
+unfolding headerLineFault
 ten-storeys s e =
     ten (headerAt s 0)
     (pick-both (inOrder (shape B s 0 ∷ fieldsFault B s 0 ∷ [])) (headerFault (headerAt s 0))
@@ -143,18 +143,18 @@ unfolding listed
 length-listed f zero = refl
 length-listed f (suc n) = length-append (listed f n) (f n ∷ []) ∙ omega (arith, length-listed f n)
 
-pub length-members : (s : List ℕ) (n : ℕ) → length (membersOf s n) ≡ membersBefore s n
-unfolding membersOf membersBefore
+pub length-members : (s : List ℕ) (n : ℕ) → length (firstMembers s n) ≡ membersBefore s n
+unfolding firstMembers membersBefore
 length-members s zero = refl
 length-members s (suc i) =
-    length-append (membersOf s i) (listed (member s i) (storey s i .count)) ∙ omega (arith, length-members s i, length-listed (member s i) (storey s i .count))
+    length-append (firstMembers s i) (listed (member s i) (storey s i .count)) ∙ omega (arith, length-members s i, length-listed (member s i) (storey s i .count))
 
 module _ (s : List ℕ) (srows mrows : ℕ) where
-  pub told-header : (x : ℕ) → x ≡ headerLine s → (x ≡ 0 → ⊥) → refusal x 1 ≡ told (survey s srows mrows)
+  pub told-header : (x : ℕ) → x ≡ headerLineFault s → (x ≡ 0 → ⊥) → refusal x 1 ≡ told (survey s srows mrows)
   unfolding survey surveyFault
   told-header x e ne = rw (← e) (simp (ne-eqb x 0 ne))
 
-  module _ (n : ℕ) (c : Checked) (z : headerLine s ≡ 0) (q : n ≡ headerAt s 0 .count) (o : CheckedOf s n srows mrows c) where
+  module _ (n : ℕ) (c : Checked) (z : headerLineFault s ≡ 0) (q : n ≡ headerAt s 0 .count) (o : CheckedOf s n srows mrows c) where
     fault-is : surveyFault s srows mrows ≡ record { number = c .number; line = c .line }
     unfolding surveyFault
     fault-is = rw (z, ← q) (sym (o .fault))

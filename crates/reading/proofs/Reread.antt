@@ -12,8 +12,9 @@ use borrow.Author.Tests.{ne-eqb, lt-ltb, le-ltb, eq-eqb}
 use Rattle.reading.specs.First.{any, inOrder}
 use Rattle.reading.specs.Records.{headerValues, storeyValues, memberValues, storeyFault, memberFault}
 use Rattle.reading.specs.Lines.{headerAt, storeyAt}
-use Rattle.reading.specs.Survey.{place, lineNumber, membersBefore, storey, memberPlace, member, shape, unheld, repeated, headerLine, storeyLine, memberLine, noFault, at-line, firstFault, membersFault, storeysFault, surveyFault, listed, storeysOf, membersOf, accepted, survey}
-use Rattle.reading.specs.Writing.{lineText, membersText, storeysText, fileText, total, before, Sound}
+use Rattle.reading.specs.Survey.{lineStart, lineNumber, membersBefore, storey, memberStart, member, shape, unheld, repeated, headerLineFault, storeyLineFault, memberLineFault, noFault, at-line, firstFault, membersFault, storeysFault, surveyFault, listed, firstStoreys, firstMembers, accepted, survey}
+use Rattle.reading.specs.Totals.{total}
+use Rattle.reading.specs.Writing.{lineText, membersText, storeysText, fileText, memberCount, before, Sound}
 use Rattle.reading.specs.declared.records.Header.{Header}
 use Rattle.reading.specs.declared.records.Storey.{Storey}
 use Rattle.reading.specs.declared.records.Member.{Member}
@@ -38,7 +39,7 @@ listed-take f l d (suc n) h g = rw (listed-take f l d n (omega arith) (λ i k. g
 before-more : (ss : List Storey) (i : ℕ) (d : Storey) → i < length ss → before ss (suc i) ≡ before ss i + getD ss i d .count
 before-more ss i d h = rw (take-suc ss i d h) (total-more (take i ss) (getD ss i d))
 
-before-most : (i : ℕ) (ss : List Storey) → before ss i ≤ total ss
+before-most : (i : ℕ) (ss : List Storey) → before ss i ≤ memberCount ss
 unfolding total
 before-most zero ss = omega arith
 before-most (suc i) [] = omega arith
@@ -87,11 +88,11 @@ module _ (s : List ℕ) (h : Header) (ss : List Storey) (ms : List Member) (d : 
 
   -- from the place of S line i on stand the lines of storey i and those after it
   abbrev From : ℕ → Type 0
-  From i = drop (place i (before ss i)) s ≡ storeysText (drop i ss) (drop (before ss i) ms)
+  From i = drop (lineStart i (before ss i)) s ≡ storeysText (drop i ss) (drop (before ss i) ms)
 
   -- there stand S line i, its M lines, and the lines after them
   abbrev Opens : ℕ → Type 0
-  Opens i = drop (place i (before ss i)) s ≡ lineText S (storeyValues (getD ss i d)) ++ (membersText (own i) ++ later i)
+  Opens i = drop (lineStart i (before ss i)) s ≡ lineText S (storeyValues (getD ss i d)) ++ (membersText (own i) ++ later i)
 
   enough : (i : ℕ) → i < length ss → before ss i + getD ss i d .count ≤ length ms
   enough i l = omega (arith, before-more ss i d l, before-most (suc i) ss, w .counts)
@@ -107,10 +108,10 @@ module _ (s : List ℕ) (h : Header) (ss : List Storey) (ms : List Member) (d : 
 
   passes : (i : ℕ) → i < length ss → Opens i → From (suc i)
   passes i l q =
-      let k : place (suc i) (before ss (suc i)) ≡ place i (before ss i) + (26 + 210 * getD ss i d .count) = omega (arith, before-more ss i d l) in
+      let k : lineStart (suc i) (before ss (suc i)) ≡ lineStart i (before ss i) + (26 + 210 * getD ss i d .count) = omega (arith, before-more ss i d l) in
       rw (
         k,
-        ← drop-drop (26 + 210 * getD ss i d .count) (place i (before ss i)) s,
+        ← drop-drop (26 + 210 * getD ss i d .count) (lineStart i (before ss i)) s,
         q,
         drop-past (lineText S (storeyValues (getD ss i d))) (membersText (own i) ++ later i) 26 (210 * getD ss i d .count) (length-line S (storeyValues (getD ss i d))),
       )
@@ -124,8 +125,8 @@ module _ (s : List ℕ) (h : Header) (ss : List Storey) (ms : List Member) (d : 
   at-storey : (i : ℕ) → i < length ss → Opens i
   at-storey i l = opens i l (from i (omega arith))
 
-  typed-storey : (i : ℕ) → i < length ss → Clean S s (place i (before ss i)) × (getD ss i d ≡ storeyAt s (place i (before ss i)))
-  typed-storey i l = storey-typed s (place i (before ss i)) (membersText (own i) ++ later i) (getD ss i d) (w .storeys i l) (at-storey i l)
+  typed-storey : (i : ℕ) → i < length ss → Clean S s (lineStart i (before ss i)) × (getD ss i d ≡ storeyAt s (lineStart i (before ss i)))
+  typed-storey i l = storey-typed s (lineStart i (before ss i)) (membersText (own i) ++ later i) (getD ss i d) (w .storeys i l) (at-storey i l)
 
   before-is : (i : ℕ) → i ≤ length ss → membersBefore s i ≡ before ss i
   unfolding membersBefore total
@@ -135,7 +136,7 @@ module _ (s : List ℕ) (h : Header) (ss : List Storey) (ms : List Member) (d : 
   storey-is : (i : ℕ) → i < length ss → storey s i ≡ getD ss i d
   storey-is i l = rw (before-is i (omega arith)) (sym (typed-storey i l .1))
 
-  storey-clean : (i : ℕ) → i < length ss → Clean S s (place i (membersBefore s i))
+  storey-clean : (i : ℕ) → i < length ss → Clean S s (lineStart i (membersBefore s i))
   storey-clean i l = rw (before-is i (omega arith)) (typed-storey i l .0)
 
   -- member j of storey i
@@ -143,15 +144,15 @@ module _ (s : List ℕ) (h : Header) (ss : List Storey) (ms : List Member) (d : 
   theirs i j = getD ms (before ss i + j) e
 
   module _ (i j : ℕ) (l : i < length ss) (k : j < getD ss i d .count) where
-    at-member : drop (memberPlace s i j) s ≡ lineText M (memberValues (theirs i j)) ++ (membersText (drop (suc j) (own i)) ++ later i)
+    at-member : drop (memberStart s i j) s ≡ lineText M (memberValues (theirs i j)) ++ (membersText (drop (suc j) (own i)) ++ later i)
     unfolding membersText
     at-member =
-        let q : memberPlace s i j ≡ place i (before ss i) + (26 + 210 * j) = omega (arith, before-is i (omega arith)) in
+        let q : memberStart s i j ≡ lineStart i (before ss i) + (26 + 210 * j) = omega (arith, before-is i (omega arith)) in
         let g : getD (own i) j e ≡ theirs i j = getD-take (getD ss i d .count) (drop (before ss i) ms) j e k ∙ getD-drop (before ss i) ms j e in
         let n : j < length (own i) = omega (arith, length-own i l) in
         rw (
           q,
-          ← drop-drop (26 + 210 * j) (place i (before ss i)) s,
+          ← drop-drop (26 + 210 * j) (lineStart i (before ss i)) s,
           at-storey i l,
           drop-past (lineText S (storeyValues (getD ss i d))) (membersText (own i) ++ later i) 26 (210 * j) (length-line S (storeyValues (getD ss i d))),
           drop-members j (own i) (later i) (omega arith),
@@ -160,26 +161,26 @@ module _ (s : List ℕ) (h : Header) (ss : List Storey) (ms : List Member) (d : 
         )
         (append-assoc (lineText M (memberValues (theirs i j))) (membersText (drop (suc j) (own i))) (later i))
 
-    typed-member : Clean M s (memberPlace s i j) × (theirs i j ≡ member s i j)
+    typed-member : Clean M s (memberStart s i j) × (theirs i j ≡ member s i j)
     typed-member =
-        member-typed s (memberPlace s i j) (membersText (drop (suc j) (own i)) ++ later i) (theirs i j) (w .members (before ss i + j) (omega (arith, enough i l))) at-member
+        member-typed s (memberStart s i j) (membersText (drop (suc j) (own i)) ++ later i) (theirs i j) (w .members (before ss i + j) (omega (arith, enough i l))) at-member
 
   -- ---- no line is refused
-  header-none : headerLine s ≡ 0
-  unfolding headerLine
+  header-none : headerLineFault s ≡ 0
+  unfolding headerLineFault
   header-none = rw (shape-none (header-is .0), header-is .0 .written, ← header-is .1, w .header)
 
   module _ (srows mrows : ℕ) (a : length ss ≤ srows) (b : length ms ≤ mrows) where
-    storey-none : (i : ℕ) → i < length ss → storeyLine s srows i ≡ 0
-    unfolding storeyLine
+    storey-none : (i : ℕ) → i < length ss → storeyLineFault s srows i ≡ 0
+    unfolding storeyLineFault
     storey-none i l =
         let c = storey-clean i l in
         let g : storeyFault (storey s i) ≡ 0 = rw (storey-is i l) (w .storeys i l) in
         five-zero _ _ _ _ _ (shape-none c) (held-none i srows (omega arith)) (c .written) g
         (repeated-none (λ k. storey s k .number) i (λ k m q. w .storey-numbers k i m l (rw (storey-is k (omega arith), storey-is i l) at q)))
 
-    member-none : (i j : ℕ) → i < length ss → j < storey s i .count → memberLine s mrows i j ≡ 0
-    unfolding memberLine
+    member-none : (i j : ℕ) → i < length ss → j < storey s i .count → memberLineFault s mrows i j ≡ 0
+    unfolding memberLineFault
     member-none i j l k =
         let n : j < getD ss i d .count = rw (storey-is i l) at k in
         let t = typed-member i j l n in
@@ -196,39 +197,39 @@ module _ (s : List ℕ) (h : Header) (ss : List Storey) (ms : List Member) (d : 
     count-is : headerAt s 0 .count ≡ length ss
     count-is = rw (← header-is .1) (w .count)
 
-    nothing-after : length s ≤ place (length ss) (membersBefore s (length ss))
+    nothing-after : length s ≤ lineStart (length ss) (membersBefore s (length ss))
     unfolding storeysText
     nothing-after =
-        let q : drop (place (length ss) (before ss (length ss))) s ≡ [] = from (length ss) (le-refl _) ∙ rw (drop-length ss) in
-        omega (arith, length-drop (place (length ss) (before ss (length ss))) s, ap length q, before-is (length ss) (le-refl _))
+        let q : drop (lineStart (length ss) (before ss (length ss))) s ≡ [] = from (length ss) (le-refl _) ∙ rw (drop-length ss) in
+        omega (arith, length-drop (lineStart (length ss) (before ss (length ss))) s, ap length q, before-is (length ss) (le-refl _))
 
     file-none : surveyFault s srows mrows .number ≡ 0
     unfolding surveyFault
     file-none =
         let k : firstFault (storeysFault s srows mrows) (length ss) .number ≡ 0 = first-zero noFault (λ f. f .number) (storeysFault s srows mrows) (length ss) refl storeys-none in
-        rw (header-none, count-is, le-ltb (place (length ss) (membersBefore s (length ss))) (length s) nothing-after, eq-eqb _ _ k)
+        rw (header-none, count-is, le-ltb (lineStart (length ss) (membersBefore s (length ss))) (length s) nothing-after, eq-eqb _ _ k)
 
     -- ---- what it holds
-    storeys-are : storeysOf s (length ss) ≡ ss
+    storeys-are : firstStoreys s (length ss) ≡ ss
     storeys-are = listed-take (storey s) ss d (length ss) (le-refl _) storey-is ∙ take-length ss
 
-    members-are : (i : ℕ) → i ≤ length ss → membersOf s i ≡ take (before ss i) ms
-    unfolding membersOf total
+    members-are : (i : ℕ) → i ≤ length ss → firstMembers s i ≡ take (before ss i) ms
+    unfolding firstMembers total
     members-are zero l = refl
     members-are (suc i) l =
         let k : listed (member s i) (getD ss i d .count) ≡ own i = listed-take (member s i) (drop (before ss i) ms) e (getD ss i d .count) (omega (arith, enough i l, length-drop (before ss i) ms)) (λ j k. sym (typed-member i j l k .1) ∙ sym (getD-drop (before ss i) ms j e)) in
         rw (members-are i (omega arith), storey-is i l, k, before-more ss i d l) (sym (take-add (before ss i) (getD ss i d .count) ms))
 
-    all-members : membersOf s (length ss) ≡ ms
+    all-members : firstMembers s (length ss) ≡ ms
     all-members =
-        let q : before ss (length ss) ≡ length ms = ap total (take-length ss) ∙ w .counts in
+        let q : before ss (length ss) ≡ length ms = ap memberCount (take-length ss) ∙ w .counts in
         members-are (length ss) (le-refl _) ∙ rw q (take-length ms)
 
     read-is : survey s srows mrows ≡ accepted h ss ms
     unfolding survey
     read-is =
-        let p : storeysOf s (headerAt s 0 .count) ≡ ss = rw count-is storeys-are in
-        let q : membersOf s (headerAt s 0 .count) ≡ ms = rw count-is all-members in
+        let p : firstStoreys s (headerAt s 0 .count) ≡ ss = rw count-is storeys-are in
+        let q : firstMembers s (headerAt s 0 .count) ≡ ms = rw count-is all-members in
         rw (eq-eqb _ _ file-none, p, q, ← header-is .1)
 
 -- reading what was written gives the records

@@ -13,8 +13,9 @@ use borrow.Author.Tests.{eqb-true}
 use Rattle.reading.specs.First.{pick}
 use Rattle.reading.specs.Records.{Allowed, fields, headerValues, storeyValues, memberValues}
 use Rattle.reading.specs.Lines.{tagByte, lineEnd, shaped, isForce, fieldAt, numberIn, valueAt, faultIn, fieldFault, fieldsFault, headerAt, storeyAt, memberAt}
-use Rattle.reading.specs.Survey.{place, membersBefore, storey, memberPlace, member, surveyFault, listed, storeysOf, membersOf, accepted, refused, survey}
-use Rattle.reading.specs.Writing.{fieldText, fieldsText, lineText, membersText, storeysText, fileText, total}
+use Rattle.reading.specs.Survey.{lineStart, membersBefore, storey, memberStart, member, surveyFault, listed, firstStoreys, firstMembers, accepted, refused, survey}
+use Rattle.reading.specs.Totals.{total}
+use Rattle.reading.specs.Writing.{fieldText, fieldsText, lineText, membersText, storeysText, fileText, memberCount}
 use Rattle.reading.specs.declared.records.Header.{Header}
 use Rattle.reading.specs.declared.records.Storey.{Storey}
 use Rattle.reading.specs.declared.records.Member.{Member}
@@ -94,13 +95,13 @@ unfolding membersText
 members-more [] xs = refl
 members-more (m ∷ ms) xs = rw (members-more ms xs) (sym (append-assoc (lineText M (memberValues m)) (membersText ms) (membersText xs)))
 
-pub total-more : (ss : List Storey) (st : Storey) → total (ss ++ (st ∷ [])) ≡ total ss + st .count
+pub total-more : (ss : List Storey) (st : Storey) → memberCount (ss ++ (st ∷ [])) ≡ memberCount ss + st .count
 unfolding total
 total-more [] st = omega arith
 total-more (x ∷ ss) st = omega (arith, total-more ss st)
 
 module _ (st : Storey) (xs : List Member) (e : st .count ≡ length xs) where
-  storeys-more : (ss : List Storey) (ms : List Member) → total ss ≡ length ms → storeysText (ss ++ (st ∷ [])) (ms ++ xs) ≡ storeysText ss ms ++ (lineText S (storeyValues st) ++ membersText xs)
+  storeys-more : (ss : List Storey) (ms : List Member) → memberCount ss ≡ length ms → storeysText (ss ++ (st ∷ [])) (ms ++ xs) ≡ storeysText ss ms ++ (lineText S (storeyValues st) ++ membersText xs)
   unfolding storeysText total
   storeys-more [] [] h = rw (take-all (st .count) xs (omega arith)) (simp append-nil)
   storeys-more [] (m ∷ ms) h = let z : ⊥ = omega arith in absurd z
@@ -111,36 +112,36 @@ module _ (st : Storey) (xs : List Member) (e : st .count ≡ length xs) where
 
 -- ---- an accepted file
 module _ (s : List ℕ) (srows mrows : ℕ) (z : surveyFault s srows mrows .number ≡ 0) where
-  members-text : (i c : ℕ) → i < headerAt s 0 .count → c ≤ storey s i .count → drop (memberPlace s i 0) s ≡ membersText (listed (member s i) c) ++ drop (memberPlace s i c) s
+  members-text : (i c : ℕ) → i < headerAt s 0 .count → c ≤ storey s i .count → drop (memberStart s i 0) s ≡ membersText (listed (member s i) c) ++ drop (memberStart s i c) s
   unfolding listed membersText
   members-text i zero h l = refl
   members-text i (suc c) h l =
-      let p : memberPlace s i c + 210 ≡ memberPlace s i (suc c) = omega arith in
+      let p : memberStart s i c + 210 ≡ memberStart s i (suc c) = omega arith in
       members-text i c h (omega arith)
-      ∙ rw (member-text s (memberPlace s i c) (member-clean s srows mrows z i h c l), p, members-more (listed (member s i) c) (member s i c ∷ [])) (simp (append-assoc, append-nil))
+      ∙ rw (member-text s (memberStart s i c) (member-clean s srows mrows z i h c l), p, members-more (listed (member s i) c) (member s i c ∷ [])) (simp (append-assoc, append-nil))
 
-  total-all : (i : ℕ) → total (storeysOf s i) ≡ membersBefore s i
+  total-all : (i : ℕ) → memberCount (firstStoreys s i) ≡ membersBefore s i
   unfolding listed membersBefore total
   total-all zero = refl
-  total-all (suc i) = total-more (storeysOf s i) (storey s i) ∙ rw (total-all i)
+  total-all (suc i) = total-more (firstStoreys s i) (storey s i) ∙ rw (total-all i)
 
-  storeys-text : (i : ℕ) → i ≤ headerAt s 0 .count → drop 50 s ≡ storeysText (storeysOf s i) (membersOf s i) ++ drop (place i (membersBefore s i)) s
-  unfolding listed membersOf membersBefore storeysText
+  storeys-text : (i : ℕ) → i ≤ headerAt s 0 .count → drop 50 s ≡ storeysText (firstStoreys s i) (firstMembers s i) ++ drop (lineStart i (membersBefore s i)) s
+  unfolding listed firstMembers membersBefore storeysText
   storeys-text zero h = refl
   storeys-text (suc i) h =
-      let p : place i (membersBefore s i) + 26 ≡ memberPlace s i 0 = omega arith in
-      let q : memberPlace s i (storey s i .count) ≡ place (suc i) (membersBefore s i + storey s i .count) = omega arith in
+      let p : lineStart i (membersBefore s i) + 26 ≡ memberStart s i 0 = omega arith in
+      let q : memberStart s i (storey s i .count) ≡ lineStart (suc i) (membersBefore s i + storey s i .count) = omega arith in
       storeys-text i (omega arith)
       ∙ rw (
-        storey-text s (place i (membersBefore s i)) (storey-clean s srows mrows z i h),
+        storey-text s (lineStart i (membersBefore s i)) (storey-clean s srows mrows z i h),
         p,
         members-text i (storey s i .count) h (le-refl _),
         q,
-        storeys-more (storey s i) (listed (member s i) (storey s i .count)) (sym (length-listed (member s i) (storey s i .count))) (storeysOf s i) (membersOf s i) (total-all i ∙ sym (length-members s i)),
+        storeys-more (storey s i) (listed (member s i) (storey s i .count)) (sym (length-listed (member s i) (storey s i .count))) (firstStoreys s i) (firstMembers s i) (total-all i ∙ sym (length-members s i)),
       )
       (simp append-assoc)
 
-  file-text : s ≡ fileText (headerAt s 0) (storeysOf s (headerAt s 0 .count)) (membersOf s (headerAt s 0 .count))
+  file-text : s ≡ fileText (headerAt s 0) (firstStoreys s (headerAt s 0 .count)) (firstMembers s (headerAt s 0 .count))
   unfolding fileText
   file-text =
       header-text s 0 (header-clean s srows mrows z)

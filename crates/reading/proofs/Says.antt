@@ -12,7 +12,7 @@ use borrow.Kind.ShrSlice.{pShrS}
 use borrow.Kind.MutSlice.{pMutS}
 use borrow.Table.Referent.{rtF, fInt}
 use Rattle.reading.specs.Lines.{memberAt}
-use Rattle.reading.specs.Survey.{place, membersBefore, storey as storeyOf, placed, filledMembers, survey}
+use Rattle.reading.specs.Survey.{lineStart, membersBefore, storey as storeyOf, placed, filledMembers, survey}
 use Rattle.reading.specs.Answer.{tells, told, storeysAfter, membersAfter}
 use Rattle.reading.specs.Checks.{Fits}
 use Rattle.walk.proofs.Fn.{Plain}
@@ -27,11 +27,11 @@ fill-members = record {
   requires = λ κs a.
       ((a .1 .1 .0 ≤ 9)
       × (a .1 .1 .1 .0 + a .1 .1 .1 .1 .0 ≤ 2000)
-      × (place (a .1 .1 .0 + 1) (a .1 .1 .1 .0 + a .1 .1 .1 .1 .0) ≤ length (a .0 .now))
+      × (lineStart (a .1 .1 .0 + 1) (a .1 .1 .1 .0 + a .1 .1 .1 .1 .0) ≤ length (a .0 .now))
       × (a .1 .1 .1 .0 + a .1 .1 .1 .1 .0 ≤ length (a .1 .0 .now)))
       ∷ [];
   ensures = λ κs a z e.
-      (e .1 .0 .now ≡ placed (λ (j : ℕ). memberAt (a .0 .now) (place (a .1 .1 .0 + 1) (a .1 .1 .1 .0 + j))) (a .1 .1 .1 .0) (a .1 .1 .1 .1 .0) (a .1 .0 .now))
+      (e .1 .0 .now ≡ placed (λ (j : ℕ). memberAt (a .0 .now) (lineStart (a .1 .1 .0 + 1) (a .1 .1 .1 .0 + j))) (a .1 .1 .1 .0) (a .1 .1 .1 .1 .0) (a .1 .0 .now))
       ∷ [];
 }
 

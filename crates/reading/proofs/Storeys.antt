@@ -14,7 +14,7 @@ use Rattle.reading.specs.First.{pick, any, first}
 use Rattle.reading.specs.Records.{memberFault}
 use Rattle.reading.specs.Lines.{fieldsFault}
 use Rattle.reading.specs.declared.records.Tag.the-variants.{M}
-use Rattle.reading.specs.Survey.{place, lineNumber, membersBefore, storey, memberPlace, member, shape, unheld, repeated, memberLine, noFault, at-line, firstFault, membersFault}
+use Rattle.reading.specs.Survey.{lineStart, lineNumber, membersBefore, storey, memberStart, member, shape, unheld, repeated, memberLineFault, noFault, at-line, firstFault, membersFault}
 use Rattle.reading.specs.Checks.{memberFirst, MemberLineOf, MembersDue}
 use Rattle.reading.specs.declared.survey.Fault.{Fault}
 use Rattle.reading.specs.declared.survey.MemberLine.{MemberLine}
@@ -35,28 +35,28 @@ pub record Turn (s : List ℕ) (rows i m count : ℕ) (numbers : List ℕ) (j : 
   pub turn : j ≤ count
   pub size : length numbers ≡ 200
   pub held : (e : ℕ) → e < j → getD numbers e 0 ≡ member s i e .number
-  pub clear : firstFault (λ k. at-line (lineNumber (i + 1) (membersBefore s i + k)) (memberLine s rows i k)) j ≡ noFault
+  pub clear : firstFault (λ k. at-line (lineNumber (i + 1) (membersBefore s i + k)) (memberLineFault s rows i k)) j ≡ noFault
 
 module _ (s : List ℕ) (rows i m count : ℕ) where
   abbrev line : ℕ → Fault
-  line k = at-line (lineNumber (i + 1) (membersBefore s i + k)) (memberLine s rows i k)
+  line k = at-line (lineNumber (i + 1) (membersBefore s i + k)) (memberLineFault s rows i k)
 
   pub turn-first : (numbers : List ℕ) → length numbers ≡ 200 → MembersDue s i m count → Turn s rows i m count numbers 0
   turn-first numbers z d = record { due = d; turn = omega arith; size = z; held = λ e l. absurd (not-suc-le-zero l); clear = first-none noFault (λ f. f .number) line }
 
-  module _ (numbers : List ℕ) (j : ℕ) (u : Turn s rows i m count numbers j) (h : j < count) (at : ℕ) (l : MemberLine) (at-is : at ≡ place (i + 1) (m + j)) (o : MemberLineOf s at (ltb (m + j) rows) l) (x f : ℕ)
+  module _ (numbers : List ℕ) (j : ℕ) (u : Turn s rows i m count numbers j) (h : j < count) (at : ℕ) (l : MemberLine) (at-is : at ≡ lineStart (i + 1) (m + j)) (o : MemberLineOf s at (ltb (m + j) rows) l) (x f : ℕ)
       (xi : x ≡ pick (any (λ (e : ℕ). eqb (getD numbers e 0) (l .number)) j) 5 0) (fi : f ≡ pick (eqb (l .fault) 0) x (l .fault)) where
-    place-is : at ≡ memberPlace s i j
+    place-is : at ≡ memberStart s i j
     place-is = omega (arith, u .due .before, at-is)
 
-    first-is : l .fault ≡ memberFirst s (memberPlace s i j) (ltb (membersBefore s i + j) rows)
+    first-is : l .fault ≡ memberFirst s (memberStart s i j) (ltb (membersBefore s i + j) rows)
     first-is = rw (← place-is, ← u .due .before) (o .fault)
 
     number-is : l .fault ≡ 0 → l .number ≡ member s i j .number
     number-is z = rw (← place-is) (o .number z)
 
-    fault-is : f ≡ memberLine s rows i j
-    unfolding memberLine
+    fault-is : f ≡ memberLineFault s rows i j
+    unfolding memberLineFault
     fault-is =
         fi
         ∙ by-first (l .fault) x (pick (any (λ (e : ℕ). eqb (member s i e .number) (member s i j .number)) j) 5 0)
@@ -64,7 +64,7 @@ module _ (s : List ℕ) (rows i m count : ℕ) where
         ∙ rw first-is
         (sym
         (in-order-last
-        (shape M s (memberPlace s i j) ∷ unheld (membersBefore s i + j) rows ∷ fieldsFault M s (memberPlace s i j) ∷ memberFault (member s i j) ∷ [])
+        (shape M s (memberStart s i j) ∷ unheld (membersBefore s i + j) rows ∷ fieldsFault M s (memberStart s i j) ∷ memberFault (member s i j) ∷ [])
         (repeated (λ e. member s i e .number) j)))
 
     next-is : firstFault line (j + 1) ≡ line j

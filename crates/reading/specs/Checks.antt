@@ -7,7 +7,7 @@ use mathlib.Core.Path.{_≡_}
 use Rattle.reading.specs.First.{pick, inOrder}
 use Rattle.reading.specs.Records.{storeyFault, memberFault}
 use Rattle.reading.specs.Lines.{fieldsFault, headerAt, storeyAt, memberAt}
-use Rattle.reading.specs.Survey.{place, membersBefore, storey, shape, headerLine, or-else, firstFault, storeysFault, trailing}
+use Rattle.reading.specs.Survey.{lineStart, membersBefore, storey, shape, headerLineFault, or-else, firstFault, storeysFault, trailing}
 use Rattle.reading.specs.declared.records.Tag.the-variants.{B, S, M}
 use Rattle.reading.specs.declared.survey.HeaderLine.{HeaderLine}
 use Rattle.reading.specs.declared.survey.StoreyLine.{StoreyLine}
@@ -21,7 +21,7 @@ abbrev pub memberFirst : List ℕ → ℕ → Bool → ℕ
 memberFirst s at held = inOrder (shape M s at ∷ pick held 0 8 ∷ fieldsFault M s at ∷ memberFault (memberAt s at) ∷ [])
 
 pub record HeaderLineOf (s : List ℕ) (r : HeaderLine) : Type 0 where
-  pub fault : r .fault ≡ headerLine s
+  pub fault : r .fault ≡ headerLineFault s
   pub holds : r .fault ≡ 0 → r .header ≡ headerAt s 0
 
 pub record StoreyLineOf (s : List ℕ) (at : ℕ) (held : Bool) (r : StoreyLine) : Type 0 where
@@ -55,4 +55,4 @@ pub record CheckedOf (s : List ℕ) (n srows mrows : ℕ) (r : Checked) : Type 0
 pub record Fits (s : List ℕ) (n : ℕ) : Type 0 where
   pub storeys : n ≤ 10
   pub counts : (i : ℕ) → i < n → storey s i .count ≤ 200
-  pub lines : (i : ℕ) → i < n → place (i + 1) (membersBefore s (i + 1)) ≤ length s
+  pub lines : (i : ℕ) → i < n → lineStart (i + 1) (membersBefore s (i + 1)) ≤ length s

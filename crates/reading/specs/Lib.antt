@@ -1,5 +1,6 @@
 pub mod Field
 pub mod First
+pub mod Totals
 pub mod Lines
 pub mod Records
 pub mod Spelling

@@ -16,8 +16,8 @@ use Rattle.reading.specs.declared.survey.Fault.{Fault}
 
 -- "one B, then each S followed by its M lines": where the line begins before which stand the B line (50 bytes), i S lines (26) and
 -- m M lines (210)
-abbrev pub place : ℕ → ℕ → ℕ
-place i m = 50 + 26 * i + 210 * m
+abbrev pub lineStart : ℕ → ℕ → ℕ
+lineStart i m = 50 + 26 * i + 210 * m
 
 -- the number of that line, from 1
 abbrev pub lineNumber : ℕ → ℕ → ℕ
@@ -26,17 +26,17 @@ lineNumber i m = 2 + i + m
 -- how many M lines stand before S line i, counted from 0
 unfoldable pub membersBefore : List ℕ → ℕ → ℕ
 membersBefore s zero = 0
-membersBefore s (suc i) = membersBefore s i + storeyAt s (place i (membersBefore s i)) .count
+membersBefore s (suc i) = membersBefore s i + storeyAt s (lineStart i (membersBefore s i)) .count
 
 -- the storey of S line i, and the member of its M line j
 abbrev pub storey : List ℕ → ℕ → Storey
-storey s i = storeyAt s (place i (membersBefore s i))
+storey s i = storeyAt s (lineStart i (membersBefore s i))
 
-abbrev pub memberPlace : List ℕ → ℕ → ℕ → ℕ
-memberPlace s i j = place (i + 1) (membersBefore s i + j)
+abbrev pub memberStart : List ℕ → ℕ → ℕ → ℕ
+memberStart s i j = lineStart (i + 1) (membersBefore s i + j)
 
 abbrev pub member : List ℕ → ℕ → ℕ → Member
-member s i j = memberAt s (memberPlace s i j)
+member s i j = memberAt s (memberStart s i j)
 
 -- 1, a line not of the tag and length expected, or absent
 abbrev pub shape : Tag → List ℕ → ℕ → ℕ
@@ -51,18 +51,18 @@ abbrev pub repeated : (ℕ → ℕ) → ℕ → ℕ
 repeated number k = pick (any (λ e. eqb (number e) (number k)) k) 5 0
 
 -- the first refusal of a line: "1, then 8, then each field's 2 and 3 from the left, then 4, 5, 7"
-unfoldable pub headerLine : List ℕ → ℕ
-headerLine s = inOrder (shape B s 0 ∷ fieldsFault B s 0 ∷ headerFault (headerAt s 0) ∷ [])
+unfoldable pub headerLineFault : List ℕ → ℕ
+headerLineFault s = inOrder (shape B s 0 ∷ fieldsFault B s 0 ∷ headerFault (headerAt s 0) ∷ [])
 
-unfoldable pub storeyLine : List ℕ → ℕ → ℕ → ℕ
-storeyLine s rows i =
-    let at = place i (membersBefore s i) in
+unfoldable pub storeyLineFault : List ℕ → ℕ → ℕ → ℕ
+storeyLineFault s rows i =
+    let at = lineStart i (membersBefore s i) in
     inOrder
     (shape S s at ∷ unheld i rows ∷ fieldsFault S s at ∷ storeyFault (storey s i) ∷ repeated (λ e. storey s e .number) i ∷ [])
 
-unfoldable pub memberLine : List ℕ → ℕ → ℕ → ℕ → ℕ
-memberLine s rows i j =
-    let at = memberPlace s i j in
+unfoldable pub memberLineFault : List ℕ → ℕ → ℕ → ℕ → ℕ
+memberLineFault s rows i j =
+    let at = memberStart s i j in
     inOrder
     (shape M s at ∷ unheld (membersBefore s i + j) rows ∷ fieldsFault M s at ∷ memberFault (member s i j) ∷ repeated (λ e. member s i e .number) j ∷ [])
 
@@ -82,22 +82,22 @@ firstFault = first noFault (λ f. f .number)
 -- "The earliest line wins": the first refusal of storey i's M lines, of its S line and these, and of the file
 unfoldable pub membersFault : List ℕ → ℕ → ℕ → Fault
 membersFault s rows i =
-    firstFault (λ j. at-line (lineNumber (i + 1) (membersBefore s i + j)) (memberLine s rows i j)) (storey s i .count)
+    firstFault (λ j. at-line (lineNumber (i + 1) (membersBefore s i + j)) (memberLineFault s rows i j)) (storey s i .count)
 
 unfoldable pub storeysFault : List ℕ → ℕ → ℕ → ℕ → Fault
 storeysFault s srows mrows i =
-    or-else (at-line (lineNumber i (membersBefore s i)) (storeyLine s srows i)) (membersFault s mrows i)
+    or-else (at-line (lineNumber i (membersBefore s i)) (storeyLineFault s srows i)) (membersFault s mrows i)
 
 -- 6, bytes after the last line, at the line they begin
 abbrev pub trailing : List ℕ → ℕ → Fault
 trailing s n =
-    pick (ltb (place n (membersBefore s n)) (length s))
+    pick (ltb (lineStart n (membersBefore s n)) (length s))
     (record { number = 6; line = lineNumber n (membersBefore s n) })
     noFault
 
 unfoldable pub surveyFault : List ℕ → ℕ → ℕ → Fault
 surveyFault s srows mrows =
-    or-else (at-line 1 (headerLine s))
+    or-else (at-line 1 (headerLineFault s))
     (or-else (firstFault (storeysFault s srows mrows) (headerAt s 0 .count)) (trailing s (headerAt s 0 .count)))
 
 -- f 0, f 1, .. f (n - 1)
@@ -106,12 +106,12 @@ listed f zero = []
 listed f (suc n) = listed f n ++ (f n ∷ [])
 
 -- the storeys of the first n S lines, and their members
-abbrev pub storeysOf : List ℕ → ℕ → List Storey
-storeysOf s n = listed (storey s) n
+abbrev pub firstStoreys : List ℕ → ℕ → List Storey
+firstStoreys s n = listed (storey s) n
 
-unfoldable pub membersOf : List ℕ → ℕ → List Member
-membersOf s zero = []
-membersOf s (suc i) = membersOf s i ++ listed (member s i) (storey s i .count)
+unfoldable pub firstMembers : List ℕ → ℕ → List Member
+firstMembers s zero = []
+firstMembers s (suc i) = firstMembers s i ++ listed (member s i) (storey s i .count)
 
 -- what reading a file comes to, with so many storey and member rows lent
 pub data Outcome : Type 0 where
@@ -121,7 +121,7 @@ pub data Outcome : Type 0 where
 unfoldable pub survey : List ℕ → ℕ → ℕ → Outcome
 survey s srows mrows =
     pick (eqb (surveyFault s srows mrows .number) 0)
-    (accepted (headerAt s 0) (storeysOf s (headerAt s 0 .count)) (membersOf s (headerAt s 0 .count)))
+    (accepted (headerAt s 0) (firstStoreys s (headerAt s 0 .count)) (firstMembers s (headerAt s 0 .count)))
     (refused (surveyFault s srows mrows .number) (surveyFault s srows mrows .line))
 
 -- rows k, k + 1, .. of a list are f 0, f 1, ..: n of them

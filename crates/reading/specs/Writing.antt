@@ -6,6 +6,7 @@ use mathlib.Core.List.{List, [], _∷_, _++_}
 use mathlib.Core.Path.{_≡_}
 use lib.Dec.{leb}
 use lib.ListN.{length, take, drop, getD}
+use Rattle.reading.specs.Totals.{total}
 use Rattle.reading.specs.First.{pick}
 use Rattle.reading.specs.Records.{zeroForce, headerValues, storeyValues, memberValues, headerFault, storeyFault, memberFault}
 use Rattle.reading.specs.Spelling.{spelled}
@@ -49,13 +50,12 @@ storeysText (st ∷ ss) ms =
 unfoldable pub fileText : Header → List Storey → List Member → List ℕ
 fileText h ss ms = lineText B (headerValues h) ++ storeysText ss ms
 
--- the total of the counts of some storeys, and how many members stand before those of storey i
-unfoldable pub total : List Storey → ℕ
-total [] = 0
-total (st ∷ ss) = st .count + total ss
+-- how many members some storeys have, and how many stand before those of storey i
+abbrev pub memberCount : List Storey → ℕ
+memberCount ss = total (λ st. st .count) ss
 
 abbrev pub before : List Storey → ℕ → ℕ
-before ss i = total (take i ss)
+before ss i = memberCount (take i ss)
 
 -- a survey of records that passes the checks: each record is good by itself, the counts are those of the lists, and no two storeys share
 -- a number, nor two members of a storey. d and e stand past the ends of the lists
@@ -64,6 +64,6 @@ pub record Sound (h : Header) (ss : List Storey) (ms : List Member) (d : Storey)
   pub storeys : (i : ℕ) → i < length ss → storeyFault (getD ss i d) ≡ 0
   pub members : (k : ℕ) → k < length ms → memberFault (getD ms k e) ≡ 0
   pub count : h .count ≡ length ss
-  pub counts : total ss ≡ length ms
+  pub counts : memberCount ss ≡ length ms
   pub storey-numbers : (a b : ℕ) → a < b → b < length ss → getD ss a d .number ≡ getD ss b d .number → ⊥
   pub member-numbers : (i a b : ℕ) → i < length ss → a < b → b < getD ss i d .count → getD ms (before ss i + a) e .number ≡ getD ms (before ss i + b) e .number → ⊥

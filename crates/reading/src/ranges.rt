@@ -171,34 +171,13 @@ fn in_ranges(tag: Tag, vs: [u64; 26]) -> bool
 pub fn header_fault(h: Header) -> u64
     ensures { λ r. ⌜ r ≡ headerFault h ⌝ }
 {
-    let vs = [
-        h.knowledge,
-        h.height,
-        h.storeys,
-        h.tilt1,
-        h.tilt2,
-        h.count,
-        0,
-        0,
-        0,
-        0,
-        0,
-        0,
-        0,
-        0,
-        0,
-        0,
-        0,
-        0,
-        0,
-        0,
-        0,
-        0,
-        0,
-        0,
-        0,
-        0,
-    ];
+    let mut vs = [0u64; 26];
+    vs[0] = h.knowledge;
+    vs[1] = h.height;
+    vs[2] = h.storeys;
+    vs[3] = h.tilt1;
+    vs[4] = h.tilt2;
+    vs[5] = h.count;
     if !in_ranges(Tag::B, vs) {
         return 3;
     }
@@ -215,34 +194,10 @@ pub fn header_fault(h: Header) -> u64
 pub fn storey_fault(s: Storey) -> u64
     ensures { λ r. ⌜ r ≡ storeyFault s ⌝ }
 {
-    let vs = [
-        s.number,
-        s.shear,
-        s.count,
-        0,
-        0,
-        0,
-        0,
-        0,
-        0,
-        0,
-        0,
-        0,
-        0,
-        0,
-        0,
-        0,
-        0,
-        0,
-        0,
-        0,
-        0,
-        0,
-        0,
-        0,
-        0,
-        0,
-    ];
+    let mut vs = [0u64; 26];
+    vs[0] = s.number;
+    vs[1] = s.shear;
+    vs[2] = s.count;
     if !in_ranges(Tag::S, vs) {
         return 3;
     }

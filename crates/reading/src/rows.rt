@@ -3,7 +3,7 @@ ghost use mathlib.Core.Path.{_≡_};
 ghost use Prim.Native.Nat.{ℕ, _+_, _≤_};
 ghost use lib.ListN.{length};
 ghost use Rattle.reading.specs.Lines.{memberAt};
-ghost use Rattle.reading.specs.Survey.{place, membersBefore, storey, placed, filledMembers};
+ghost use Rattle.reading.specs.Survey.{lineStart, membersBefore, storey, placed, filledMembers};
 ghost use Rattle.reading.specs.Survey.{survey};
 ghost use Rattle.reading.specs.Answer.{tells, told, storeysAfter, membersAfter};
 ghost use Rattle.reading.specs.Checks.{Fits};
@@ -18,8 +18,8 @@ use crate::survey::storeys_read;
 
 // The members of storey i, before which stand m members.
 fn fill_members(s: &[u8], rows: &mut [Member], i: usize, m: usize, count: usize)
-    requires { ⌜ (i ≤ 9) × (m + count ≤ 2000) × (place (i + 1) (m + count) ≤ length (now s)) × (m + count ≤ length (now rows)) ⌝ }
-    ensures { λ _. ⌜ now (rows .exit) ≡ placed (λ (j : ℕ). memberAt (now (s .entry)) (place (i + 1) (m + j))) m count (now (rows .entry)) ⌝ }
+    requires { ⌜ (i ≤ 9) × (m + count ≤ 2000) × (lineStart (i + 1) (m + count) ≤ length (now s)) × (m + count ≤ length (now rows)) ⌝ }
+    ensures { λ _. ⌜ now (rows .exit) ≡ placed (λ (j : ℕ). memberAt (now (s .entry)) (lineStart (i + 1) (m + j))) m count (now (rows .entry)) ⌝ }
 {
     let mut j = 0;
     while j < count {

@@ -5,7 +5,7 @@ ghost use lib.Dec.{eqb};
 ghost use lib.ListN.{length, getD};
 ghost use Rattle.reading.specs.First.{pick, any};
 ghost use Rattle.reading.specs.Checks.{HeaderLineOf, StoreyLineOf, MemberGood, MemberLineOf, MembersDue, CheckedOf};
-ghost use Rattle.reading.specs.Survey.{place, membersFault, survey};
+ghost use Rattle.reading.specs.Survey.{lineStart, membersFault, survey};
 ghost use Rattle.reading.specs.Lines.{storeyAt, memberAt};
 ghost use Rattle.reading.specs.Answer.{tells, told, storeysTold};
 use crate::lines::earlier;
@@ -179,9 +179,9 @@ fn repeat_fault(numbers: &[u64; 200], n: usize, v: u64) -> u64
 }
 
 // Where the line begins before which stand the B line, i S lines and m M lines.
-pub(crate) fn place_of(i: usize, m: usize) -> usize
+pub(crate) fn line_start(i: usize, m: usize) -> usize
     requires { ⌜ (i ≤ 11) × (m ≤ 2200) ⌝ }
-    ensures { λ r. ⌜ r ≡ place i m ⌝ }
+    ensures { λ r. ⌜ r ≡ lineStart i m ⌝ }
 {
     50 + 26 * i + 210 * m
 }
@@ -194,7 +194,7 @@ fn members_fault(s: &[u8], i: usize, m: usize, count: usize, rows: usize) -> Fau
     let mut numbers = [0u64; 200];
     let mut j = 0;
     while j < count {
-        let l = member_line(s, place_of(i + 1, m + j), m + j < rows);
+        let l = member_line(s, line_start(i + 1, m + j), m + j < rows);
         let f = earlier(l.fault, repeat_fault(&numbers, j, l.number));
         if f != 0 {
             return Fault {
@@ -224,7 +224,7 @@ pub(crate) fn storeys_fault(s: &[u8], n: usize, srows: usize, mrows: usize) -> C
     let mut i = 0;
     let mut m = 0;
     while i < n {
-        let l = storey_line(s, place_of(i, m), i < srows);
+        let l = storey_line(s, line_start(i, m), i < srows);
         let st = l.storey;
         let f = earlier(l.fault, repeat_fault(&numbers, i, st.number));
         if f != 0 {
@@ -247,7 +247,7 @@ pub(crate) fn storeys_fault(s: &[u8], n: usize, srows: usize, mrows: usize) -> C
         m += count;
         i += 1;
     }
-    if place_of(n, m) < s.len() {
+    if line_start(n, m) < s.len() {
         return Checked {
             number: 6,
             line: (2 + n + m) as u64,
@@ -315,20 +315,20 @@ pub fn check(s: &[u8], srows: usize, mrows: usize) -> Reading
 
 // The storey of the S line before which stand i S lines and m M lines.
 pub(crate) fn storey_at(s: &[u8], i: usize, m: usize) -> Storey
-    requires { ⌜ (i ≤ 10) × (m ≤ 2000) × (place i m + 26 ≤ length (now s)) ⌝ }
-    ensures { λ r. ⌜ r ≡ storeyAt (now (s .entry)) (place i m) ⌝ }
+    requires { ⌜ (i ≤ 10) × (m ≤ 2000) × (lineStart i m + 26 ≤ length (now s)) ⌝ }
+    ensures { λ r. ⌜ r ≡ storeyAt (now (s .entry)) (lineStart i m) ⌝ }
 {
-    let f = read_fields(s, place_of(i, m), Tag::S);
+    let f = read_fields(s, line_start(i, m), Tag::S);
     let vs = f.values;
     storey_of(vs)
 }
 
 // The member of the M line before which stand i S lines and m M lines.
 pub(crate) fn member_at(s: &[u8], i: usize, m: usize) -> Member
-    requires { ⌜ (i ≤ 10) × (m ≤ 2000) × (place i m + 210 ≤ length (now s)) ⌝ }
-    ensures { λ r. ⌜ r ≡ memberAt (now (s .entry)) (place i m) ⌝ }
+    requires { ⌜ (i ≤ 10) × (m ≤ 2000) × (lineStart i m + 210 ≤ length (now s)) ⌝ }
+    ensures { λ r. ⌜ r ≡ memberAt (now (s .entry)) (lineStart i m) ⌝ }
 {
-    let f = read_fields(s, place_of(i, m), Tag::M);
+    let f = read_fields(s, line_start(i, m), Tag::M);
     let vs = f.values;
     member_of(vs)
 }

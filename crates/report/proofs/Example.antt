@@ -12,7 +12,7 @@ use Rattle.members.specs.Class.{detailed, columnClass, wallClass, classOf}
 use Rattle.members.specs.Tables.{places, moments, rotations}
 use Rattle.members.specs.Limits.{interp, blend, columnA, columnB, columnC, wallRows, wallB, mLimitAt, rotationLimitAt}
 use Rattle.members.specs.Finding.{axial, moment, stress, hoops, mLimit, rotationLimit, mDropped, isOver, findingBy}
-use Rattle.storeys.specs.Totals.{total, some}
+use Rattle.reading.specs.Totals.{total, some}
 use Rattle.storeys.specs.Storey.{meetsWallShare, axialTotal, overShear, someOver, damaged, exceedsShare, riskyByDamage, storeyRisky, storeyFinding}
 use Rattle.storeys.specs.Building.{membersBefore, membersOf, riskyAt, tilted, someRisky, buildingRisky}
 use Rattle.report.specs.Line.{printedNumbers, line}

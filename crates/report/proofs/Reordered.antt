@@ -11,7 +11,7 @@ use Rattle.reading.specs.declared.records.Header.{Header}
 use Rattle.reading.specs.declared.records.Storey.{Storey}
 use Rattle.reading.specs.declared.records.Member.{Member}
 use Rattle.members.specs.Finding.{axialRatioD, finding, flag}
-use Rattle.storeys.specs.Totals.{total, some}
+use Rattle.reading.specs.Totals.{total, some}
 use Rattle.storeys.specs.Storey.{publishedRules, wallShear, meetsWallShare, axialTotal, over, shearIfOver, overShear, someOver, damaged, riskyByDamage, storeyRisky, storeyFinding}
 use Rattle.storeys.specs.Building.{storeyIn, membersOf, riskyAt, tilted, someRisky, buildingRisky}
 use Rattle.report.specs.Sheet.{memberLine, storeyLine, buildingLine, memberLines, storeyLines, storeysLines, sheet}

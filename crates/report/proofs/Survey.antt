@@ -18,7 +18,7 @@ use Rattle.reading.specs.declared.records.Tag.the-variants.{B}
 use Rattle.reading.proofs.Below.{and-right, every-at}
 use Rattle.reading.proofs.Files.{count-most}
 use Rattle.reading.proofs.Validity.{clear}
-use Rattle.storeys.specs.Totals.{total}
+use Rattle.reading.specs.Totals.{total}
 use Rattle.storeys.specs.Storey.{publishedRules, countFault, knowledgeFault, memberRowsFault, storeyCallFault}
 use Rattle.storeys.specs.Building.{storeyIn, membersBefore, membersOf, countsFault, storeyRowsFault, shearFaultAt, buildingFault}
 use Rattle.storeys.proofs.Refusals.{None, end, also, one, rest, in-order-clear, in-order-none, first-clear, count-clear}

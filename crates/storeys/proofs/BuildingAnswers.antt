@@ -19,7 +19,7 @@ use Rattle.members.specs.Finding.{knowledge}
 use Rattle.storeys.specs.declared.BuildingAnswer.{BuildingAnswer}
 use Rattle.storeys.specs.declared.BuildingAnswer.the-variants.{Judged, Refused}
 use Rattle.storeys.specs.declared.verdict.Verdict.{Verdict}
-use Rattle.storeys.specs.Totals.{total}
+use Rattle.reading.specs.Totals.{total}
 use Rattle.storeys.specs.Storey.{publishedRules, countFault}
 use Rattle.storeys.specs.Building.{riskyAt, countsFault, storeyRowsFault, shearFaultAt, buildingFault, tilted, someRisky, buildingRisky, buildingFinding, buildingAnswerBy, PlaceOk, nowhere, named, placeIn, Answers, returnedBuilding, buildingReturned}
 use Rattle.storeys.specs.Verdict.{headerCallFault, placeAt, verdictOf, verdictAnswer, Counted, GoodRows}

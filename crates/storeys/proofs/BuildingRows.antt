@@ -19,7 +19,7 @@ use Rattle.reading.proofs.Files.{count-most}
 use Rattle.members.specs.Finding.{knowledge}
 use Rattle.storeys.specs.declared.StoreyFinding.{StoreyFinding}
 use Rattle.storeys.specs.declared.verdict.Verdict.{Verdict}
-use Rattle.storeys.specs.Totals.{total}
+use Rattle.reading.specs.Totals.{total}
 use Rattle.storeys.specs.Storey.{publishedRules, memberRowsFault, storeyFinding}
 use Rattle.storeys.specs.Tally.{Rows}
 use Rattle.storeys.specs.Building.{storeyIn, membersBefore, membersOf, riskyAt, storeyRowsFault, shearFaultAt}

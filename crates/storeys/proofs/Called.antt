@@ -22,7 +22,7 @@ use Rattle.storeys.specs.declared.StoreyFinding.{StoreyFinding}
 use Rattle.storeys.specs.declared.StoreyAnswer.{StoreyAnswer}
 use Rattle.storeys.specs.declared.StoreyAnswer.the-variants.{Refused}
 use Rattle.storeys.specs.declared.row.Tally.{Tally}
-use Rattle.storeys.specs.Totals.{total}
+use Rattle.reading.specs.Totals.{total}
 use Rattle.storeys.specs.Storey.{publishedRules, wallShear, meetsWallShare, axialTotal, over, shearIfOver, overShear, storeyRisky, riskyByDamage, storeyFinding, countFault, knowledgeFault, shearFault, memberIn, noMember, memberRowsFault, storeyCallFault, storeyAnswerBy, storeyAnswer, returnedStorey, storeyReturned}
 use Rattle.storeys.specs.Tally.{tallyOf, Rows, Small, foundBy, headFault, judgedBy}
 use Rattle.storeys.proofs.Rows.{nd-most}

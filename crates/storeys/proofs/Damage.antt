@@ -10,7 +10,7 @@ use lib.Dec.{eqb}
 use lib.ListN.{length}
 use Rattle.reading.specs.declared.records.Member.{Member}
 use Rattle.members.specs.Finding.{flag}
-use Rattle.storeys.specs.Totals.{total}
+use Rattle.reading.specs.Totals.{total}
 use Rattle.storeys.specs.Storey.{damaged, riskyByDamage}
 use Rattle.storeys.specs.Demand3.{MemberPairs}
 use Rattle.storeys.specs.Pairing.{EveryPair}

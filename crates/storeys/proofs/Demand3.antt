@@ -13,7 +13,7 @@ use Rattle.reading.proofs.Validity.{valid}
 use Rattle.members.specs.Finding.{answerBy}
 use Rattle.members.proofs.Order.{published-ordered}
 use Rattle.storeys.specs.declared.BuildingAnswer.{BuildingAnswer}
-use Rattle.storeys.specs.Totals.{some}
+use Rattle.reading.specs.Totals.{some}
 use Rattle.storeys.specs.Storey.{Rules, publishedRules, orderly, meetsWallShare, over, storeyRisky, storeyAnswerBy}
 use Rattle.storeys.specs.Building.{riskyAt, someRisky, buildingRisky, tiltAllowed, tilted}
 use Rattle.storeys.specs.Pairing.{EveryPair}

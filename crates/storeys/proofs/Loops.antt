@@ -17,7 +17,7 @@ use Rattle.reading.proofs.Firsts.{first-none, first-next, first-kept, first-cle
 use Rattle.reading.proofs.Validity.{valid}
 use Rattle.members.specs.Class.{isWall}
 use Rattle.members.specs.Finding.{axialRatioD, knowledge, flag}
-use Rattle.storeys.specs.Totals.{total, some}
+use Rattle.reading.specs.Totals.{total, some}
 use Rattle.storeys.specs.Storey.{publishedRules, wallShear, axialTotal, over, shearIfOver, overShear, someOver, damaged, memberIn, noMember, rowFault, memberRowsFault}
 use Rattle.storeys.specs.declared.row.Tally.{Tally}
 use Rattle.storeys.specs.Tally.{weightOf, noTally, added, tallyOf, Rows, AddsUp}

@@ -14,7 +14,7 @@ use borrow.Kind.ShrSlice.{pShrS}
 use Rattle.reading.specs.First.{pick, any, first}
 use Rattle.reading.specs.Records.{storeyFault}
 use Rattle.members.specs.Finding.{knowledge}
-use Rattle.storeys.specs.Totals.{total}
+use Rattle.reading.specs.Totals.{total}
 use Rattle.storeys.specs.Storey.{publishedRules, wallShear, memberIn, memberRowsFault, storeyFinding, storeyAnswer, returnedStorey, storeyReturned}
 use Rattle.storeys.specs.Tally.{tallyOf, Rows}
 use Rattle.storeys.specs.Building.{storeyIn, storeyRowsFault, Answers as Answered, placeIn, returnedBuilding, buildingReturned}

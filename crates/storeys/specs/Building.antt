@@ -15,7 +15,7 @@ use Rattle.members.specs.Finding.{flag, Returned, refused}
 use Rattle.storeys.specs.declared.BuildingFinding.{BuildingFinding}
 use Rattle.storeys.specs.declared.BuildingAnswer.{BuildingAnswer}
 use Rattle.storeys.specs.declared.BuildingAnswer.the-variants.{Judged, Refused}
-use Rattle.storeys.specs.Totals.{total}
+use Rattle.reading.specs.Totals.{total}
 use Rattle.storeys.specs.Storey.{Rules, publishedRules, meetsWallShare, overShear, storeyRisky, countFault, shearFault, memberRowsFault}
 
 -- what stands past the rows

@@ -15,7 +15,7 @@ use Rattle.members.specs.Class.{detailed, columnClass, wallClass, classOf}
 use Rattle.members.specs.Tables.{places, moments, rotations}
 use Rattle.members.specs.Limits.{interp, blend, columnA, columnB, columnC, wallRows, wallB, mLimitAt, rotationLimitAt}
 use Rattle.members.specs.Finding.{axial, moment, stress, hoops, mLimit, rotationLimit, mDropped, isOver, findingBy, memberReturned}
-use Rattle.storeys.specs.Totals.{total, some}
+use Rattle.reading.specs.Totals.{total, some}
 use Rattle.storeys.specs.Storey.{meetsWallShare, axialTotal, overShear, someOver, damaged, exceedsShare, riskyByDamage, storeyRisky, storeyFinding, noMember, rowFault, memberRowsFault, storeyCallFault, storeyReturned}
 use Rattle.storeys.specs.Building.{membersBefore, membersOf, riskyAt, countsFault, storeyRowsFault, shearFaultAt, buildingFault, tilted, someRisky, buildingRisky, buildingFinding, buildingReturned}
 
@@ -35,8 +35,8 @@ pub record Case : Type 0 where
   pub vr : ℕ
   pub shear : ℕ
 
-abbrev pub member : Case → Member
-member c =
+abbrev pub edgeMember : Case → Member
+edgeMember c =
     record {
       number = c .number;
       long = c .long;
@@ -62,16 +62,16 @@ member c =
 -- columns with n, hooks, the mark, V_e and V_r; a wall with n and V_e
 abbrev pub edgeColumn : ℕ → ℕ → ℕ → ℕ → ℕ → Member
 edgeColumn n hooks strengthened ve vr =
-    member (record { number = 1; long = 400; short = 250; hoops = 130; hooks = hooks; strengthened = strengthened; damage = 0; nd = 0; nk = n; me = 0; ve = ve; vr = vr; shear = 0 })
+    edgeMember (record { number = 1; long = 400; short = 250; hoops = 130; hooks = hooks; strengthened = strengthened; damage = 0; nd = 0; nk = n; me = 0; ve = ve; vr = vr; shear = 0 })
 
-abbrev pub wall : ℕ → ℕ → Member
-wall n ve =
-    member (record { number = 1; long = 1_000; short = 100; hoops = 130; hooks = 1; strengthened = 0; damage = 0; nd = 0; nk = n; me = 0; ve = ve; vr = 9_999; shear = 0 })
+abbrev pub edgeWall : ℕ → ℕ → Member
+edgeWall n ve =
+    edgeMember (record { number = 1; long = 1_000; short = 100; hoops = 130; hooks = 1; strengthened = 0; damage = 0; nd = 0; nk = n; me = 0; ve = ve; vr = 9_999; shear = 0 })
 
 -- column i of a storey with its n_D, moment demand, V and damage kind; with 1,000 it is over, with 0 not
 abbrev pub loaded : ℕ → ℕ → ℕ → ℕ → ℕ → Member
 loaded i nd me shear damage =
-    member (record { number = i; long = 400; short = 250; hoops = 130; hooks = 1; strengthened = 0; damage = damage; nd = nd; nk = 0; me = me; ve = 0; vr = 1; shear = shear })
+    edgeMember (record { number = i; long = 400; short = 250; hoops = 130; hooks = 1; strengthened = 0; damage = damage; nd = nd; nk = 0; me = me; ve = 0; vr = 1; shear = shear })
 
 -- class and limits that a member with k 100 or 90 is answered
 abbrev pub limits : ℕ → Member → List ℕ
@@ -119,7 +119,7 @@ edges =
     -- (d) column C, n 8,500
     ∷ edge (limits 100 (edgeColumn 8_500 0 0 200 100)) (3 ∷ 10_000 ∷ 2_500 ∷ [])
     -- (e) wall A with zone, n 1,750, v 11,000
-    ∷ edge (limits 100 (wall 1_750 1_100)) (4 ∷ 43_750 ∷ 18_750 ∷ [])
+    ∷ edge (limits 100 (edgeWall 1_750 1_100)) (4 ∷ 43_750 ∷ 18_750 ∷ [])
     -- (f) k 90, V_r 100, detailed: V_e 63 is A, 64 B
     ∷ edge (class 90 (edgeColumn 0 1 0 63 100)) (1 ∷ [])
     ∷ edge (class 90 (edgeColumn 0 1 0 64 100)) (2 ∷ [])

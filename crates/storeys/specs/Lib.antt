@@ -1,4 +1,3 @@
-pub mod Totals
 pub mod Storey
 pub mod Building
 pub mod Tally

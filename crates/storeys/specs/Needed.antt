@@ -10,7 +10,7 @@ use Rattle.members.specs.Class.{detailed, columnClass, wallClass, classOf}
 use Rattle.members.specs.Tables.{places, moments, rotations}
 use Rattle.members.specs.Limits.{interp, blend, columnA, columnB, columnC, wallRows, wallB, mLimitAt, rotationLimitAt}
 use Rattle.members.specs.Finding.{axial, moment, stress, hoops, mLimit, rotationLimit, mDropped, isOver, findingBy}
-use Rattle.storeys.specs.Totals.{total, some}
+use Rattle.reading.specs.Totals.{total, some}
 use Rattle.storeys.specs.Storey.{meetsWallShare, axialTotal, overShear, someOver, damaged, exceedsShare, riskyByDamage, storeyRisky, storeyFinding, noMember, rowFault, memberRowsFault}
 use Rattle.storeys.specs.Building.{membersBefore, membersOf, riskyAt, countsFault, storeyRowsFault, shearFaultAt, buildingFault, tilted, someRisky, buildingRisky, buildingFinding, buildingReturned}
 use Rattle.storeys.specs.Demand3.{Survey}
@@ -34,8 +34,8 @@ pub record Given : Type 0 where
   pub drift : ℕ
 
 -- a building of one storey with one member
-abbrev pub survey : Given → Survey
-survey g =
+abbrev pub neededSurvey : Given → Survey
+neededSurvey g =
     record {
       header = record { knowledge = g .k; height = 9_000; storeys = 3; tilt1 = 0; tilt2 = 0; count = 1 };
       storeys = record { number = 1; shear = g .storeyShear; count = 1 } ∷ [];
@@ -95,8 +95,8 @@ neededColumn k w fcm hooks strengthened nk me vr rotation =
       drift = 0;
     }
 
-abbrev pub wall : ℕ → ℕ → ℕ → ℕ → ℕ → Given
-wall nk me vr shear drift =
+abbrev pub neededWall : ℕ → ℕ → ℕ → ℕ → ℕ → Given
+neededWall nk me vr shear drift =
     record {
       k = 100;
       storeyShear = 1_000;
@@ -136,15 +136,15 @@ needed =
     -- no rotation lower
     ∷ pair (neededColumn 100 1_000 100 0 0 0 0 60 99_999) (neededColumn 100 1_000 100 0 0 0 0 60 0)
     -- every wall its partner's class: without boundary zone B is milder than A, 50,000 and 45,000
-    ∷ pair (wall 1_000 470 901 1_000 7_500) (wall 1_000 470 900 1_000 7_500)
+    ∷ pair (neededWall 1_000 470 901 1_000 7_500) (neededWall 1_000 470 900 1_000 7_500)
     -- equal wall shears: with 400 of 1,000 the m test is dropped
-    ∷ pair (wall 0 999 901 399 0) (wall 0 999 901 400 0)
+    ∷ pair (neededWall 0 999 901 399 0) (neededWall 0 999 901 400 0)
     ∷ []
 
 -- the refusal, tilt and Risky that the call on a building answers
 abbrev pub answer : Given → List ℕ
 answer g =
-    let a : Survey = survey g in
+    let a : Survey = neededSurvey g in
     let r = buildingReturned (a .header) (a .storeys) (a .members) 0 in
     r .refusal ∷ take 2 (r .values)
 

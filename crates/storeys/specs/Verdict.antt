@@ -15,7 +15,7 @@ use Rattle.storeys.specs.declared.StoreyFinding.{StoreyFinding}
 use Rattle.storeys.specs.declared.BuildingAnswer.{BuildingAnswer}
 use Rattle.storeys.specs.declared.BuildingAnswer.the-variants.{Judged, Refused}
 use Rattle.storeys.specs.declared.verdict.Verdict.{Verdict}
-use Rattle.storeys.specs.Totals.{total}
+use Rattle.reading.specs.Totals.{total}
 use Rattle.storeys.specs.Storey.{publishedRules, countFault, shearFault}
 use Rattle.storeys.specs.Building.{riskyAt, storeyRowsFault, shearFaultAt, tilted}
 

@@ -4,7 +4,7 @@ ghost use Prim.Native.Nat.{ℕ, _≤_};
 ghost use lib.Dec.{eqb};
 ghost use lib.ListN.{length};
 ghost use Rattle.reading.specs.First.{pick, any, first};
-ghost use Rattle.storeys.specs.Totals.{total};
+ghost use Rattle.reading.specs.Totals.{total};
 ghost use Rattle.storeys.specs.Storey.{publishedRules};
 ghost use Rattle.storeys.specs.Building.{storeyIn, storeyRowsFault, Answers, placeIn, returnedBuilding, buildingReturned};
 ghost use Rattle.storeys.specs.Verdict.{verdictOf, Counted, GoodRows};

@@ -7,7 +7,7 @@ ghost use lib.ListN.{length};
 ghost use Rattle.reading.specs.First.{pick, any};
 ghost use Rattle.reading.specs.Records.{storeyFault};
 ghost use Rattle.members.specs.Finding.{knowledge};
-ghost use Rattle.storeys.specs.Totals.{total};
+ghost use Rattle.reading.specs.Totals.{total};
 ghost use Rattle.storeys.specs.Storey.{publishedRules, wallShear, memberIn, memberRowsFault, storeyFinding, storeyAnswer, returnedStorey, storeyReturned};
 ghost use Rattle.storeys.specs.Tally.{tallyOf, Rows};
 use crate::StoreyFinding;

@@ -8,6 +8,15 @@ use borrow.Author.Needs.{needs}
 use Rattle.reading.proofs.ranges.storey_fault.Statement.{statement}
 use Rattle.reading.proofs.ranges.storey_fault.Tie as tie
 
+array-write-vs : tie.Need-array-write-vs
+array-write-vs c = search needs
+
+array-write-vs-2 : tie.Need-array-write-vs-2
+array-write-vs-2 c = search needs
+
+array-write-vs-3 : tie.Need-array-write-vs-3
+array-write-vs-3 c = search needs
+
 in-ranges-requires : tie.Need-in-ranges-requires
 in-ranges-requires c κs = search needs
 
@@ -20,4 +29,4 @@ unfolding storeyFault every
 returns-2 c = let e : every (inRange S (storeyValues (c .before .before .args .s))) 3 ≡ true = sym (c .before .in-ranges .ensures) ∙ not-false _ (c .if1 .left) in simp e
 
 pub storey-fault-spec : {M : Type 1} → statement M
-storey-fault-spec = tie.close (tie.spec in-ranges-requires returns returns-2)
+storey-fault-spec = tie.close (tie.spec array-write-vs array-write-vs-2 array-write-vs-3 in-ranges-requires returns returns-2)

@@ -20,7 +20,7 @@ use Rattle.walk.proofs.Fn.{Callee, Knows, Body, Answers, entry, call, meets}
 use Rattle.reading.proofs.Structs.{member}
 use Rattle.reading.specs.declared.records.Member.{Member}
 use Rattle.reading.specs.Lines.{memberAt}
-use Rattle.reading.specs.Survey.{place, placed}
+use Rattle.reading.specs.Survey.{lineStart, placed}
 use Rattle.reading.proofs.Placed.{placed-none, placed-step, placed-all}
 use Rattle.reading.proofs.Says as Says
 use Rattle.reading.proofs.Says.{bytes}
@@ -54,7 +54,7 @@ abbrev body : Body Says.fill-members K 0 Code.function
 body κs qs bs =
     set 6 u64 (lit w64 0 tt) gone refl (λ u. refl) (λ u. tt) ⨾
     from (cx1 κs qs) (while (λ (vs : List Member × ℕ) u. (u .0, (u .1 .0, (setVals (vs .0) (u .1 .1 .0), (u .1 .1 .1 .0, (u .1 .1 .1 .1 .0, (u .1 .1 .1 .1 .1 .0, (vs .1, u .1 .1 .1 .1 .1 .1 .1))))))))
-    (λ u vs. (vs .1 ≤ u .1 .1 .1 .1 .1 .0) × (length (vs .0) ≡ length (u .1 .1 .0 .now)) × (vs .0 ≡ placed (λ (j : ℕ). memberAt (u .1 .0 .now) (place (u .1 .1 .1 .0 + 1) (u .1 .1 .1 .1 .0 + j))) (u .1 .1 .1 .1 .0) (vs .1) (u .1 .1 .0 .now)))
+    (λ u vs. (vs .1 ≤ u .1 .1 .1 .1 .1 .0) × (length (vs .0) ≡ length (u .1 .1 .0 .now)) × (vs .0 ≡ placed (λ (j : ℕ). memberAt (u .1 .0 .now) (lineStart (u .1 .1 .1 .0 + 1) (u .1 .1 .1 .1 .0 + j))) (u .1 .1 .1 .1 .0) (vs .1) (u .1 .1 .0 .now)))
     (λ u vs. u .1 .1 .1 .1 .1 .0 - vs .1)
     (op2 8 sBool (lt unsigned) (cp 6 (sc u64)) (cp 5 (sc u64)) gone refl (λ u. refl) (λ u. tt) ⨾
     test 8 (λ t. t) (sc sBool) (old sBool) refl (exits 1 tt)

@@ -3,8 +3,8 @@ use borrow.Author.Needs.{needs}
 use Rattle.reading.proofs.survey.member_at.Statement.{statement}
 use Rattle.reading.proofs.survey.member_at.Tie as tie
 
-place-of-requires : tie.Need-place-of-requires
-place-of-requires c κs = search needs
+line-start-requires : tie.Need-line-start-requires
+line-start-requires c κs = search needs
 
 read-fields-requires : tie.Need-read-fields-requires
 read-fields-requires c κs = search needs
@@ -13,8 +13,8 @@ member-of-requires : tie.Need-member-of-requires
 member-of-requires c κs = search needs
 
 returns : tie.Need-returns
-returns c = member-held _ _ (c .before .before .read-fields .result .values) (c .member-of .result) (rw (c .before .before .before .place-of .ensures) at (c .before .before .read-fields .ensures .values)) (c .member-of .ensures)
+returns c = member-held _ _ (c .before .before .read-fields .result .values) (c .member-of .result) (rw (c .before .before .before .line-start .ensures) at (c .before .before .read-fields .ensures .values)) (c .member-of .ensures)
 
 pub member-at-spec : {M : Type 1} → statement M
 member-at-spec =
-    tie.close (tie.spec place-of-requires read-fields-requires member-of-requires returns)
+    tie.close (tie.spec line-start-requires read-fields-requires member-of-requires returns)

@@ -15,14 +15,14 @@ abbrev μ-loop : tie.MeasureT-loop
 loop-holds : tie.Need-loop-holds Inv-loop μ-loop
 loop-holds c = turn-first _ _ _ _ _ _ refl (c .before .pre)
 
-add-place-of : tie.Need-add-place-of Inv-loop μ-loop
-add-place-of c = omega (arith, c .before .loop .inv .due .storeys, c .before .loop .inv .due .most, c .before .loop .inv .due .count-most, c .before .loop .inv .turn)
+add-line-start : tie.Need-add-line-start Inv-loop μ-loop
+add-line-start c = omega (arith, c .before .loop .inv .due .storeys, c .before .loop .inv .due .most, c .before .loop .inv .due .count-most, c .before .loop .inv .turn)
 
-add-place-of-2 : tie.Need-add-place-of-2 Inv-loop μ-loop
-add-place-of-2 c = omega (arith, c .before .loop .inv .due .storeys, c .before .loop .inv .due .most, c .before .loop .inv .due .count-most, c .before .loop .inv .turn)
+add-line-start-2 : tie.Need-add-line-start-2 Inv-loop μ-loop
+add-line-start-2 c = omega (arith, c .before .loop .inv .due .storeys, c .before .loop .inv .due .most, c .before .loop .inv .due .count-most, c .before .loop .inv .turn)
 
-place-of-requires : tie.Need-place-of-requires Inv-loop μ-loop
-place-of-requires c κs = (omega (arith, c .before .loop .inv .due .storeys, c .before .loop .inv .due .most, c .before .loop .inv .due .count-most, c .before .loop .inv .turn), omega (arith, c .before .loop .inv .due .storeys, c .before .loop .inv .due .most, c .before .loop .inv .due .count-most, c .before .loop .inv .turn))
+line-start-requires : tie.Need-line-start-requires Inv-loop μ-loop
+line-start-requires c κs = (omega (arith, c .before .loop .inv .due .storeys, c .before .loop .inv .due .most, c .before .loop .inv .due .count-most, c .before .loop .inv .turn), omega (arith, c .before .loop .inv .due .storeys, c .before .loop .inv .due .most, c .before .loop .inv .due .count-most, c .before .loop .inv .turn))
 
 add-member-line : tie.Need-add-member-line Inv-loop μ-loop
 add-member-line c = omega (arith, c .before .before .loop .inv .due .storeys, c .before .before .loop .inv .due .most, c .before .before .loop .inv .due .count-most, c .before .before .loop .inv .turn)
@@ -46,7 +46,7 @@ add-t19 : tie.Need-add-t19 Inv-loop μ-loop
 add-t19 c = omega (arith, c .before .before .before .before .before .before .before .loop .inv .due .storeys, c .before .before .before .before .before .before .before .loop .inv .due .most, c .before .before .before .before .before .before .before .loop .inv .due .count-most, c .before .before .before .before .before .before .before .loop .inv .turn)
 
 returns : tie.Need-returns Inv-loop μ-loop
-returns c = turn-stops (c .before .before .before .before .before .before .before .before .before .args .s .now) (c .before .before .before .before .before .before .before .before .before .args .rows) (c .before .before .before .before .before .before .before .before .before .args .i) (c .before .before .before .before .before .before .before .before .before .args .m) (c .before .before .before .before .before .before .before .before .before .args .count) (c .before .before .before .before .before .before .before .loop .numbers) (c .before .before .before .before .before .before .before .loop .j) (c .before .before .before .before .before .before .before .loop .inv) (c .before .before .before .before .before .before .loop-test .taken) _ (c .before .before .before .before .member-line .result) (c .before .before .before .before .before .place-of .ensures) (c .before .before .before .before .member-line .ensures) _ _ (c .before .before .repeat-fault .ensures) (c .before .earlier .ensures) _ (c .if1 .taken) refl
+returns c = turn-stops (c .before .before .before .before .before .before .before .before .before .args .s .now) (c .before .before .before .before .before .before .before .before .before .args .rows) (c .before .before .before .before .before .before .before .before .before .args .i) (c .before .before .before .before .before .before .before .before .before .args .m) (c .before .before .before .before .before .before .before .before .before .args .count) (c .before .before .before .before .before .before .before .loop .numbers) (c .before .before .before .before .before .before .before .loop .j) (c .before .before .before .before .before .before .before .loop .inv) (c .before .before .before .before .before .before .loop-test .taken) _ (c .before .before .before .before .member-line .result) (c .before .before .before .before .before .line-start .ensures) (c .before .before .before .before .member-line .ensures) _ _ (c .before .before .repeat-fault .ensures) (c .before .earlier .ensures) _ (c .if1 .taken) refl
 
 mul-numbers : tie.Need-mul-numbers Inv-loop μ-loop
 mul-numbers c = omega (arith, c .before .before .before .before .before .before .before .loop .inv .due .storeys, c .before .before .before .before .before .before .before .loop .inv .due .most, c .before .before .before .before .before .before .before .loop .inv .due .count-most, c .before .before .before .before .before .before .before .loop .inv .turn)
@@ -61,7 +61,7 @@ loop-less : tie.Need-loop-less Inv-loop μ-loop
 loop-less c = search needs
 
 loop-again : tie.Need-loop-again Inv-loop μ-loop
-loop-again c = turn-next (c .before .before .before .before .before .before .before .before .before .args .s .now) (c .before .before .before .before .before .before .before .before .before .args .rows) (c .before .before .before .before .before .before .before .before .before .args .i) (c .before .before .before .before .before .before .before .before .before .args .m) (c .before .before .before .before .before .before .before .before .before .args .count) (c .before .before .before .before .before .before .before .loop .numbers) (c .before .before .before .before .before .before .before .loop .j) (c .before .before .before .before .before .before .before .loop .inv) (c .before .before .before .before .before .before .loop-test .taken) _ (c .before .before .before .before .member-line .result) (c .before .before .before .before .before .place-of .ensures) (c .before .before .before .before .member-line .ensures) _ _ (c .before .before .repeat-fault .ensures) (c .before .earlier .ensures) (c .if1 .left)
+loop-again c = turn-next (c .before .before .before .before .before .before .before .before .before .args .s .now) (c .before .before .before .before .before .before .before .before .before .args .rows) (c .before .before .before .before .before .before .before .before .before .args .i) (c .before .before .before .before .before .before .before .before .before .args .m) (c .before .before .before .before .before .before .before .before .before .args .count) (c .before .before .before .before .before .before .before .loop .numbers) (c .before .before .before .before .before .before .before .loop .j) (c .before .before .before .before .before .before .before .loop .inv) (c .before .before .before .before .before .before .loop-test .taken) _ (c .before .before .before .before .member-line .result) (c .before .before .before .before .before .line-start .ensures) (c .before .before .before .before .member-line .ensures) _ _ (c .before .before .repeat-fault .ensures) (c .before .earlier .ensures) (c .if1 .left)
 
 returns-2 : tie.Need-returns-2 Inv-loop μ-loop
 returns-2 c = turn-last _ _ _ _ _ _ _ (c .before .loop .inv) (c .loop-test .left)
@@ -73,9 +73,9 @@ members-fault-spec =
     Inv-loop
     μ-loop
     loop-holds
-    add-place-of
-    add-place-of-2
-    place-of-requires
+    add-line-start
+    add-line-start-2
+    line-start-requires
     add-member-line
     member-line-requires
     repeat-fault-requires

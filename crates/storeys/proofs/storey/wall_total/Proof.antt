@@ -5,7 +5,7 @@ use mathlib.Core.Path.{_≡_, refl}
 use lib.ListN.{length, drop}
 use borrow.Author.Tests.{ltb-true, ltb-false}
 use Rattle.storeys.specs.Storey.{noMember, wallShear}
-use Rattle.storeys.specs.Totals.{total}
+use Rattle.reading.specs.Totals.{total}
 use Rattle.storeys.proofs.Loops.{wall-room, wall-next, wall-all}
 use contract.Lifetimes.{Lfts, Shares}
 use contract.Running.{tablesOf}

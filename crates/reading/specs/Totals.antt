@@ -1,4 +1,4 @@
--- Totals over the rows of a storey.
+-- Totals and tests over the elements of a list.
 use Prim.Native.Nat.{ℕ, _+_}
 use mathlib.Core.Bool.{Bool, false, _||_}
 use mathlib.Core.List.{List, [], _∷_}
