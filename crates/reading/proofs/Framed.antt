@@ -1,18 +1,16 @@
 -- A line whose tag and LF stand where they must and whose fields are not refused has its shape.
 use Prim.Native.Nat.{ℕ, _+_, _*_, _≤_, _<_}
 use native.Mathlib.Omega.{arith}
-use native.Mathlib.Nat.{le-refl}
-use mathlib.Core.Bool.{true, _&&_}
-use mathlib.Core.List.{List, _∷_, _++_}
+use mathlib.Core.Bool.{true}
+use mathlib.Core.List.{List}
 use mathlib.Core.Path.{_≡_, ap, sym, _∙_}
 use lib.Dec.{ltb, eqb}
 use lib.ListN.{length, drop, getD, length-drop}
 use lib.Seq.{getD-drop}
 use borrow.Author.Tests.{eqb-true, eqb-false, ltb-true, eq-eqb, lt-ltb}
-use Rattle.reading.specs.Records.{fields, memberFault}
+use Rattle.reading.specs.Records.{fields}
 use Rattle.reading.specs.Field.{framed}
-use Rattle.reading.specs.Lines.{tagByte, lineEnd, shaped, valueAt, fieldsFault, memberAt}
-use Rattle.reading.specs.Writing.{fieldsText}
+use Rattle.reading.specs.Lines.{tagByte, lineEnd, shaped, valueAt, fieldsFault}
 use Rattle.reading.specs.Checks.{MemberGood, MemberLineOf}
 use Rattle.reading.specs.declared.survey.MemberLine.{MemberLine}
 use Rattle.reading.specs.declared.records.Tag.{Tag}

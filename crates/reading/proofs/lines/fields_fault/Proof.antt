@@ -1,9 +1,8 @@
 use Prim.Native.Nat.{_-_}
-use mathlib.Core.Path.{_≡_, sym, _∙_}
+use mathlib.Core.Path.{_≡_, sym}
 use native.Mathlib.Omega.{arith}
 use borrow.Author.Needs.{needs}
 use Rattle.reading.specs.Records.{fields}
-use Rattle.reading.specs.Lines.{valueAt}
 use Rattle.reading.proofs.Allowing.{fields-most}
 use Rattle.reading.proofs.Fields.{Looked, looks-first, stops, looks-on}
 use Rattle.reading.proofs.lines.fields_fault.Statement.{statement}
