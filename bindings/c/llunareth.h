@@ -8,8 +8,9 @@
  * A record handed in as numbers has them in the order of its line. A number that is not given is refused; numbers past the last field are
  * not looked at. A row is handed in as numbers by (const uint64_t *)&row.
  *
- * Most calls put out ten numbers: refusal (0 for none), line (0 except when reading), then the values; a refusal has zeros for them. A
- * buffer that does not hold ten numbers is left as it was, and one that holds more is left as it was after the tenth.
+ * The calls that put out ten numbers return the refusal, 0 for none. The ten are the refusal, the line (0 except when reading), then the
+ * values; a refusal has zeros for them. A buffer that does not hold ten numbers is left as it was, and one that holds more is left as it
+ * was after the tenth.
  */
 #ifndef LLUNARETH_H
 #define LLUNARETH_H
@@ -149,8 +150,8 @@ enum { LLUNARETH_REPORT_LENGTH = 2 };
  * Reads a survey file. Accepted: the storeys and the members fill the rows from the front, in the order of the file, and the rows after
  * them are left alone. Refused, by 1 to 8 with the line: all rows are left alone.
  */
-void llunareth_read(const uint8_t *file, size_t file_len, struct llunareth_storey *storeys, size_t storeys_len,
-                    struct llunareth_member *members, size_t members_len, uint64_t *out, size_t out_len);
+uint64_t llunareth_read(const uint8_t *file, size_t file_len, struct llunareth_storey *storeys, size_t storeys_len,
+                        struct llunareth_member *members, size_t members_len, uint64_t *out, size_t out_len);
 
 /* The number of a header's refusal: 0 for none, else 3 or 7. */
 uint64_t llunareth_header_fault(const uint64_t *values, size_t values_len);
@@ -162,30 +163,30 @@ uint64_t llunareth_storey_fault(const uint64_t *values, size_t values_len);
 uint64_t llunareth_member_fault(const uint64_t *values, size_t values_len);
 
 /* Judges a member with k and whether its storey meets the 0.40 condition. Refused by 3, k's first, or 4. */
-void llunareth_judge_member(uint64_t k, bool met, const uint64_t *values, size_t values_len, uint64_t *out, size_t out_len);
+uint64_t llunareth_judge_member(uint64_t k, bool met, const uint64_t *values, size_t values_len, uint64_t *out, size_t out_len);
 
 /*
  * Judges a storey, given by its numbers, with k and the rows of its members. Refused by 1 where its count is not the rows; by 3, 4, 5 or
  * 10.
  */
-void llunareth_judge_storey(uint64_t k, const uint64_t *storey, size_t storey_len, const struct llunareth_member *members,
-                            size_t members_len, uint64_t *out, size_t out_len);
+uint64_t llunareth_judge_storey(uint64_t k, const uint64_t *storey, size_t storey_len, const struct llunareth_member *members,
+                                size_t members_len, uint64_t *out, size_t out_len);
 
 /*
  * Judges a building, given by its header's numbers, the rows of its storeys, and the rows of the members of all of them in survey order.
  * Refused by 1 where a count is not the rows; by 3, 4, 5, 7 or 10.
  */
-void llunareth_judge_building(const uint64_t *header, size_t header_len, const struct llunareth_storey *storeys, size_t storeys_len,
-                              const struct llunareth_member *members, size_t members_len, uint64_t *out, size_t out_len);
+uint64_t llunareth_judge_building(const uint64_t *header, size_t header_len, const struct llunareth_storey *storeys, size_t storeys_len,
+                                  const struct llunareth_member *members, size_t members_len, uint64_t *out, size_t out_len);
 
 /*
  * Writes the sheet of a building, given as for its judgment, from the front of the bytes `sheet`; those after it are left alone. It has 86
  * bytes for each member, 74 for each storey and 26 for the building, and no byte 0 is put after it. Refused as the judgment is, then by 9
  * where the sheet does not fit: all bytes are left alone.
  */
-void llunareth_report(const uint64_t *header, size_t header_len, const struct llunareth_storey *storeys, size_t storeys_len,
-                      const struct llunareth_member *members, size_t members_len, uint8_t *sheet, size_t sheet_len, uint64_t *out,
-                      size_t out_len);
+uint64_t llunareth_report(const uint64_t *header, size_t header_len, const struct llunareth_storey *storeys, size_t storeys_len,
+                          const struct llunareth_member *members, size_t members_len, uint8_t *sheet, size_t sheet_len, uint64_t *out,
+                          size_t out_len);
 
 /*
  * Puts what the program `determine` prints for a file from the front of the bytes `text` and returns its length; the bytes after it are

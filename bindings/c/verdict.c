@@ -53,10 +53,11 @@ static int print_verdict(uint64_t risky, uint64_t place)
 static int judge(const uint64_t *read)
 {
     uint64_t found[LLUNARETH_NUMBERS] = {0};
-    llunareth_judge_building(read + LLUNARETH_READ_HEADER, LLUNARETH_HEADER_NUMBERS, storeys, (size_t)read[LLUNARETH_READ_STOREY_ROWS],
-                             members, (size_t)read[LLUNARETH_READ_MEMBER_ROWS], found, LLUNARETH_NUMBERS);
-    if (found[LLUNARETH_REFUSAL] != 0) {
-        return print_refusal(found[LLUNARETH_REFUSAL], found[LLUNARETH_LINE]);
+    uint64_t refusal = llunareth_judge_building(read + LLUNARETH_READ_HEADER, LLUNARETH_HEADER_NUMBERS, storeys,
+                                                (size_t)read[LLUNARETH_READ_STOREY_ROWS], members,
+                                                (size_t)read[LLUNARETH_READ_MEMBER_ROWS], found, LLUNARETH_NUMBERS);
+    if (refusal != 0) {
+        return print_refusal(refusal, found[LLUNARETH_LINE]);
     }
     return print_verdict(found[LLUNARETH_BUILDING_RISKY], found[LLUNARETH_BUILDING_PLACE]);
 }
@@ -68,9 +69,9 @@ static int determine(size_t length)
         return print_refusal(TOO_LONG, 0);
     }
     uint64_t read[LLUNARETH_NUMBERS] = {0};
-    llunareth_read(file, length, storeys, LLUNARETH_STOREY_ROWS, members, LLUNARETH_MEMBER_ROWS, read, LLUNARETH_NUMBERS);
-    if (read[LLUNARETH_REFUSAL] != 0) {
-        return print_refusal(read[LLUNARETH_REFUSAL], read[LLUNARETH_LINE]);
+    uint64_t refusal = llunareth_read(file, length, storeys, LLUNARETH_STOREY_ROWS, members, LLUNARETH_MEMBER_ROWS, read, LLUNARETH_NUMBERS);
+    if (refusal != 0) {
+        return print_refusal(refusal, read[LLUNARETH_LINE]);
     }
     return judge(read);
 }

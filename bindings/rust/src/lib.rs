@@ -10,12 +10,13 @@ pub use findings::{BuildingFinding, MemberFinding, Refusal, StoreyFinding};
 pub use records::{Header, LoadCase, Member, Storey, Survey, ZERO_FORCE};
 
 /// The values that a call puts out after refusal and line.
-fn values(call: impl FnOnce(&mut [u64])) -> Result<[u64; 8], Refusal> {
+fn values(call: impl FnOnce(&mut [u64]) -> u64) -> Result<[u64; 8], Refusal> {
     let mut out = [0; 10];
-    call(&mut out);
-    match out {
-        [0, _, values @ ..] => Ok(values),
-        [number, line, ..] => Err(Refusal { number, line }),
+    let number = call(&mut out);
+    let [_, line, values @ ..] = out;
+    match number {
+        0 => Ok(values),
+        number => Err(Refusal { number, line }),
     }
 }
 

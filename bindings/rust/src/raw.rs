@@ -1,5 +1,6 @@
 //! The calls as the proved library has them: slices of any length in, and numbers out, as in `bindings/c/llunareth.h`. A record handed in as
 //! numbers has them in the order of its line; one that lacks a number is refused. An `out` that does not hold ten numbers is left as it was.
+//! Each call that puts out numbers also returns the refusal, 0 for none.
 use crate::{Member, Storey};
 
 extern "C" {
@@ -12,11 +13,11 @@ extern "C" {
         members_len: usize,
         out: *mut u64,
         out_len: usize,
-    );
+    ) -> u64;
     fn llunareth_header_fault(values: *const u64, values_len: usize) -> u64;
     fn llunareth_storey_fault(values: *const u64, values_len: usize) -> u64;
     fn llunareth_member_fault(values: *const u64, values_len: usize) -> u64;
-    fn llunareth_judge_member(k: u64, met: bool, values: *const u64, values_len: usize, out: *mut u64, out_len: usize);
+    fn llunareth_judge_member(k: u64, met: bool, values: *const u64, values_len: usize, out: *mut u64, out_len: usize) -> u64;
     fn llunareth_judge_storey(
         k: u64,
         storey: *const u64,
@@ -25,7 +26,7 @@ extern "C" {
         members_len: usize,
         out: *mut u64,
         out_len: usize,
-    );
+    ) -> u64;
     fn llunareth_judge_building(
         header: *const u64,
         header_len: usize,
@@ -35,7 +36,7 @@ extern "C" {
         members_len: usize,
         out: *mut u64,
         out_len: usize,
-    );
+    ) -> u64;
     fn llunareth_report(
         header: *const u64,
         header_len: usize,
@@ -47,14 +48,14 @@ extern "C" {
         sheet_len: usize,
         out: *mut u64,
         out_len: usize,
-    );
+    ) -> u64;
     fn llunareth_determine(file: *const u8, file_len: usize, text: *mut u8, text_len: usize) -> usize;
 }
 
 // Each call below is sound for every slice: it is handed a slice's own pointer and length, and stays within them.
 
 /// Reads a file into the rows. Numbers put out: refusal, line, the six fields of B, the storey rows and the member rows filled.
-pub fn read(file: &[u8], storeys: &mut [Storey], members: &mut [Member], out: &mut [u64]) {
+pub fn read(file: &[u8], storeys: &mut [Storey], members: &mut [Member], out: &mut [u64]) -> u64 {
     unsafe {
         llunareth_read(
             file.as_ptr(),
@@ -65,7 +66,7 @@ pub fn read(file: &[u8], storeys: &mut [Storey], members: &mut [Member], out: &m
             members.len(),
             out.as_mut_ptr(),
             out.len(),
-        );
+        )
     }
 }
 
@@ -85,19 +86,19 @@ pub fn member_fault(values: &[u64]) -> u64 {
 }
 
 /// Judges a member. Numbers put out: refusal, 0, class, m, its limit, rotation, its limit, over, n_D, 0.
-pub fn judge_member(k: u64, met: bool, values: &[u64], out: &mut [u64]) {
+pub fn judge_member(k: u64, met: bool, values: &[u64], out: &mut [u64]) -> u64 {
     unsafe { llunareth_judge_member(k, met, values.as_ptr(), values.len(), out.as_mut_ptr(), out.len()) }
 }
 
 /// Judges a storey. Numbers put out: refusal, 0, Σ, c, P, W, Risky, whether the 0.40 condition is met, 0, 0.
-pub fn judge_storey(k: u64, storey: &[u64], members: &[Member], out: &mut [u64]) {
+pub fn judge_storey(k: u64, storey: &[u64], members: &[Member], out: &mut [u64]) -> u64 {
     unsafe {
-        llunareth_judge_storey(k, storey.as_ptr(), storey.len(), members.as_ptr(), members.len(), out.as_mut_ptr(), out.len());
+        llunareth_judge_storey(k, storey.as_ptr(), storey.len(), members.as_ptr(), members.len(), out.as_mut_ptr(), out.len())
     }
 }
 
 /// Judges a building. Numbers put out: refusal, 0, tilt above 25,000, Risky, a Risky storey's place or 0, and zeros.
-pub fn judge_building(header: &[u64], storeys: &[Storey], members: &[Member], out: &mut [u64]) {
+pub fn judge_building(header: &[u64], storeys: &[Storey], members: &[Member], out: &mut [u64]) -> u64 {
     unsafe {
         llunareth_judge_building(
             header.as_ptr(),
@@ -108,12 +109,12 @@ pub fn judge_building(header: &[u64], storeys: &[Storey], members: &[Member], ou
             members.len(),
             out.as_mut_ptr(),
             out.len(),
-        );
+        )
     }
 }
 
 /// Writes the sheet of a building to the front of `sheet`. Numbers put out: refusal, 0, the sheet's length, and zeros.
-pub fn report(header: &[u64], storeys: &[Storey], members: &[Member], sheet: &mut [u8], out: &mut [u64]) {
+pub fn report(header: &[u64], storeys: &[Storey], members: &[Member], sheet: &mut [u8], out: &mut [u64]) -> u64 {
     unsafe {
         llunareth_report(
             header.as_ptr(),
@@ -126,7 +127,7 @@ pub fn report(header: &[u64], storeys: &[Storey], members: &[Member], sheet: &mu
             sheet.len(),
             out.as_mut_ptr(),
             out.len(),
-        );
+        )
     }
 }
 

@@ -3,10 +3,12 @@ use Prim.Native.Nat.{ℕ, suc, _+_, _≤_, _<_}
 use native.Mathlib.Omega.{arith}
 use native.Mathlib.Numerals.{add-one}
 use mathlib.Core.List.{List, _++_}
-use mathlib.Core.Path.{_≡_, sym, _∙_}
+use mathlib.Core.Path.{_≡_, refl, sym, _∙_}
 use lib.ListN.{length, take, drop, set, getD}
 use borrow.Author.Tests.{le-leb, lt-leb}
+use Rattle.reading.specs.Answer.{Told, filled, refusal}
 use Rattle.report.specs.Line.{atFront}
+use Rattle.exports.specs.Words.{words, refusalTold}
 use lib.Seq.{take-suc, drop-cons, set-at, length-take-le, take-all, append-snoc}
 
 pub front-step : (w d now : List ℕ) (i : ℕ) → i < length w → i < length d → now ≡ take i w ++ drop i d → set now i (getD w i 0) ≡ take (i + 1) w ++ drop (i + 1) d
@@ -22,3 +24,8 @@ pub put-all : (d w now : List ℕ) (i : ℕ) → length w ≡ 10 → 10 ≤ leng
 put-all d w now i l h g k q =
     let z : i ≡ 10 = omega arith in
     q ∙ rw (z, l, le-leb 10 (length d) h, take-all 10 w (omega arith))
+
+-- the first of the ten numbers of a reading is its refusal
+pub first-word : (t : Told) → getD (words t) 0 0 ≡ refusalTold t
+first-word (filled h storeys members) = refl
+first-word (refusal number line) = refl

@@ -4,7 +4,7 @@ use mathlib.Core.Path.{_≡_}
 use lib.ListN.{length}
 use mir.Syntax.{w8, w64}
 use denote.RattleType.{RattleType}
-use borrow.Fn.Kinds.{rUnit}
+use borrow.Fn.Kinds.{rNum}
 use borrow.Kind.ShrSlice.{pShrS}
 use borrow.Kind.MutSlice.{pMutS}
 use borrow.Kind.Num.{pNum}
@@ -17,7 +17,7 @@ use Rattle.reading.proofs.Structs.{member, storey}
 use Rattle.reading.specs.Lines.{headerBy, storeyBy}
 use Rattle.storeys.specs.Storey.{storeyReturned}
 use Rattle.report.specs.Sheet.{reportReturned, bufferAfter}
-use Rattle.exports.specs.Words.{words as wordsOf, handed, ten, BuildingWritten}
+use Rattle.exports.specs.Words.{words as wordsOf, refusalTold, handed, ten, BuildingWritten}
 use Rattle.report.specs.Line.{atFront}
 
 abbrev pub bytes : RattleType
@@ -26,35 +26,38 @@ bytes = rtF (fInt w8)
 abbrev pub words : RattleType
 words = rtF (fInt w64)
 
-abbrev pub llunareth-read : Plain {n = 4} (pShrS bytes 0 tt ∷ pMutS (R storey) 1 tt ∷ pMutS (R member) 2 tt ∷ pMutS words 3 tt ∷ []) rUnit
+abbrev pub llunareth-read : Plain {n = 4} (pShrS bytes 0 tt ∷ pMutS (R storey) 1 tt ∷ pMutS (R member) 2 tt ∷ pMutS words 3 tt ∷ []) (rNum w64)
 llunareth-read = record {
   requires = λ κs a. [];
   ensures = λ κs a z e.
-      (e .1 .1 .1 .0 .now ≡ atFront (wordsOf (told (survey (a .0 .now) (length (a .1 .0 .now)) (length (a .1 .1 .0 .now))))) (a .1 .1 .1 .0 .now))
+      (z ≡ refusalTold (told (survey (a .0 .now) (length (a .1 .0 .now)) (length (a .1 .1 .0 .now)))))
+      ∷ (e .1 .1 .1 .0 .now ≡ atFront (wordsOf (told (survey (a .0 .now) (length (a .1 .0 .now)) (length (a .1 .1 .0 .now))))) (a .1 .1 .1 .0 .now))
       ∷ (e .1 .0 .now ≡ storeysAfter (survey (a .0 .now) (length (a .1 .0 .now)) (length (a .1 .1 .0 .now))) (a .1 .0 .now))
       ∷ (e .1 .1 .0 .now ≡ membersAfter (survey (a .0 .now) (length (a .1 .0 .now)) (length (a .1 .1 .0 .now))) (a .1 .1 .0 .now))
       ∷ [];
 }
 
-abbrev pub llunareth-judge-storey : Plain {n = 3} (pNum w64 ∷ pShrS words 0 tt ∷ pShrS (R member) 1 tt ∷ pMutS words 2 tt ∷ []) rUnit
+abbrev pub llunareth-judge-storey : Plain {n = 3} (pNum w64 ∷ pShrS words 0 tt ∷ pShrS (R member) 1 tt ∷ pMutS words 2 tt ∷ []) (rNum w64)
 llunareth-judge-storey = record {
   requires = λ κs a. [];
   ensures = λ κs a z e.
-      (e .1 .1 .1 .0 .now ≡ atFront (ten (storeyReturned (a .0) (storeyBy (handed (a .1 .0 .now))) (a .1 .1 .0 .now))) (a .1 .1 .1 .0 .now)) ∷ [];
+      (z ≡ storeyReturned (a .0) (storeyBy (handed (a .1 .0 .now))) (a .1 .1 .0 .now) .refusal)
+      ∷ (e .1 .1 .1 .0 .now ≡ atFront (ten (storeyReturned (a .0) (storeyBy (handed (a .1 .0 .now))) (a .1 .1 .0 .now))) (a .1 .1 .1 .0 .now)) ∷ [];
 }
 
-abbrev pub llunareth-judge-building : Plain {n = 4} (pShrS words 0 tt ∷ pShrS (R storey) 1 tt ∷ pShrS (R member) 2 tt ∷ pMutS words 3 tt ∷ []) rUnit
+abbrev pub llunareth-judge-building : Plain {n = 4} (pShrS words 0 tt ∷ pShrS (R storey) 1 tt ∷ pShrS (R member) 2 tt ∷ pMutS words 3 tt ∷ []) (rNum w64)
 llunareth-judge-building = record {
   requires = λ κs a. [];
   ensures = λ κs a z e.
-      BuildingWritten (headerBy (handed (a .0 .now))) (a .1 .0 .now) (a .1 .1 .0 .now) (a .1 .1 .1 .0 .now) (e .1 .1 .1 .0 .now) ∷ [];
+      BuildingWritten (headerBy (handed (a .0 .now))) (a .1 .0 .now) (a .1 .1 .0 .now) z (a .1 .1 .1 .0 .now) (e .1 .1 .1 .0 .now) ∷ [];
 }
 
-abbrev pub llunareth-report : Plain {n = 5} (pShrS words 0 tt ∷ pShrS (R storey) 1 tt ∷ pShrS (R member) 2 tt ∷ pMutS bytes 3 tt ∷ pMutS words 4 tt ∷ []) rUnit
+abbrev pub llunareth-report : Plain {n = 5} (pShrS words 0 tt ∷ pShrS (R storey) 1 tt ∷ pShrS (R member) 2 tt ∷ pMutS bytes 3 tt ∷ pMutS words 4 tt ∷ []) (rNum w64)
 llunareth-report = record {
   requires = λ κs a. [];
   ensures = λ κs a z e.
-      (e .1 .1 .1 .1 .0 .now ≡ atFront (ten (reportReturned (headerBy (handed (a .0 .now))) (a .1 .0 .now) (a .1 .1 .0 .now) (length (a .1 .1 .1 .0 .now)))) (a .1 .1 .1 .1 .0 .now))
+      (z ≡ reportReturned (headerBy (handed (a .0 .now))) (a .1 .0 .now) (a .1 .1 .0 .now) (length (a .1 .1 .1 .0 .now)) .refusal)
+      ∷ (e .1 .1 .1 .1 .0 .now ≡ atFront (ten (reportReturned (headerBy (handed (a .0 .now))) (a .1 .0 .now) (a .1 .1 .0 .now) (length (a .1 .1 .1 .0 .now)))) (a .1 .1 .1 .1 .0 .now))
       ∷ (e .1 .1 .1 .0 .now ≡ bufferAfter (headerBy (handed (a .0 .now))) (a .1 .0 .now) (a .1 .1 .0 .now) (a .1 .1 .1 .0 .now))
       ∷ [];
 }

@@ -29,6 +29,11 @@ words (filled h storeys members) =
     ∷ []
 words (refusal number line) = number ∷ line ∷ 0 ∷ 0 ∷ 0 ∷ 0 ∷ 0 ∷ 0 ∷ 0 ∷ 0 ∷ []
 
+-- the refusal, 0 where accepted
+abbrev pub refusalTold : Told → ℕ
+refusalTold (filled h storeys members) = 0
+refusalTold (refusal number line) = number
+
 -- an answer on records as ten numbers: refusal and line, the values, and zeros
 abbrev pub ten : Returned → List ℕ
 ten r = r .refusal ∷ r .line ∷ take 8 (r .values ++ (0 ∷ 0 ∷ 0 ∷ 0 ∷ 0 ∷ 0 ∷ 0 ∷ 0 ∷ []))
@@ -41,8 +46,9 @@ missing = 18_446_744_073_709_551_615
 abbrev pub handed : List ℕ → ℕ → ℕ
 handed values j = getD values j missing
 
--- what the call on a building leaves in a buffer: the ten numbers of an answer that the paper gives
-pub record BuildingWritten (h : Header) (ss : List Storey) (ms : List Member) (before after : List ℕ) : Type 0 where
+-- what the call on a building gives and leaves in a buffer: the refusal and the ten numbers of an answer that document 01 gives
+pub record BuildingWritten (h : Header) (ss : List Storey) (ms : List Member) (result : ℕ) (before after : List ℕ) : Type 0 where
   pub answer : BuildingAnswer
   pub given : Answers publishedRules h ss ms answer
+  pub returned : result ≡ returnedBuilding answer .refusal
   pub written : after ≡ atFront (ten (returnedBuilding answer)) before

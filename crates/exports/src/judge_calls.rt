@@ -49,14 +49,15 @@ fn member_words(a: MemberAnswer) -> [u64; 10]
     }
 }
 
-// A member, given by its 26 numbers, judged with k and whether its storey meets the 0.40 condition.
+// A member, given by its 26 numbers, judged with k and whether its storey meets the 0.40 condition. Each call gives the refusal, 0 where there is none.
 #[no_mangle]
-pub extern "C" fn llunareth_judge_member(k: u64, met: bool, values: &[u64], out: &mut [u64])
+pub extern "C" fn llunareth_judge_member(k: u64, met: bool, values: &[u64], out: &mut [u64]) -> u64
+    ensures { λ r. ⌜ r ≡ memberReturned k met (memberBy (handed (now (values .entry)))) .refusal ⌝ }
     ensures { λ _. ⌜ now (out .exit) ≡ atFront (ten (memberReturned k met (memberBy (handed (now (values .entry)))))) (now (out .entry)) ⌝ }
 {
     let vs = values_of(values);
     let a = judge_member(k, met, member_of(vs));
-    put_ten(out, member_words(a));
+    put_ten(out, member_words(a))
 }
 
 fn storey_given(values: &[u64]) -> Storey
@@ -88,10 +89,11 @@ fn storey_words(r: StoreyJudgment) -> [u64; 10]
     }
 }
 
-fn put_storey(out: &mut [u64], r: StoreyJudgment)
+fn put_storey(out: &mut [u64], r: StoreyJudgment) -> u64
+    ensures { λ n. ⌜ n ≡ returnedStorey (r .answer) .refusal ⌝ }
     ensures { λ _. ⌜ now (out .exit) ≡ atFront (ten (returnedStorey (r .answer))) (now (out .entry)) ⌝ }
 {
-    put_ten(out, storey_words(r));
+    put_ten(out, storey_words(r))
 }
 
 // A storey, given by its three numbers, and its members, judged with k.
@@ -101,12 +103,13 @@ pub extern "C" fn llunareth_judge_storey(
     storey: &[u64],
     members: &[Member],
     out: &mut [u64],
-)
+) -> u64
+    ensures { λ r. ⌜ r ≡ storeyReturned k (storeyBy (handed (now (storey .entry)))) (now (members .entry)) .refusal ⌝ }
     ensures { λ _. ⌜ now (out .exit) ≡ atFront (ten (storeyReturned k (storeyBy (handed (now (storey .entry)))) (now (members .entry)))) (now (out .entry)) ⌝ }
 {
     let s = storey_given(storey);
     let r = judge_storey(k, s, members);
-    put_storey(out, r);
+    put_storey(out, r)
 }
 
 pub(crate) fn header_given(values: &[u64]) -> Header
@@ -127,10 +130,11 @@ fn building_words(r: BuildingJudgment) -> [u64; 10]
     }
 }
 
-fn put_building(out: &mut [u64], r: BuildingJudgment)
+fn put_building(out: &mut [u64], r: BuildingJudgment) -> u64
+    ensures { λ n. ⌜ n ≡ returnedBuilding (r .answer) .refusal ⌝ }
     ensures { λ _. ⌜ now (out .exit) ≡ atFront (ten (returnedBuilding (r .answer))) (now (out .entry)) ⌝ }
 {
-    put_ten(out, building_words(r));
+    put_ten(out, building_words(r))
 }
 
 // A building: its header, given by its six numbers, its storeys, and the members of all of them in survey order.
@@ -140,10 +144,10 @@ pub extern "C" fn llunareth_judge_building(
     storeys: &[Storey],
     members: &[Member],
     out: &mut [u64],
-)
-    ensures { λ _. ⌜ BuildingWritten (headerBy (handed (now (header .entry)))) (now (storeys .entry)) (now (members .entry)) (now (out .entry)) (now (out .exit)) ⌝ }
+) -> u64
+    ensures { λ r. ⌜ BuildingWritten (headerBy (handed (now (header .entry)))) (now (storeys .entry)) (now (members .entry)) r (now (out .entry)) (now (out .exit)) ⌝ }
 {
     let h = header_given(header);
     let r = judge_building(h, storeys, members);
-    put_building(out, r);
+    put_building(out, r)
 }

@@ -3,7 +3,7 @@ ghost use mathlib.Core.Path.{_≡_};
 ghost use lib.ListN.{length};
 ghost use Rattle.reading.specs.Survey.{survey};
 ghost use Rattle.reading.specs.Answer.{tells, told, storeysAfter, membersAfter};
-ghost use Rattle.exports.specs.Words.{words};
+ghost use Rattle.exports.specs.Words.{words, refusalTold};
 ghost use Rattle.report.specs.Line.{atFront};
 use crate::words::put_ten;
 use reading::records::Member;
@@ -48,25 +48,27 @@ fn words_of(r: Reading) -> [u64; 10]
     }
 }
 
-fn put_words(out: &mut [u64], r: Reading)
+fn put_words(out: &mut [u64], r: Reading) -> u64
+    ensures { λ n. ⌜ n ≡ refusalTold (tells (r .answer)) ⌝ }
     ensures { λ _. ⌜ now (out .exit) ≡ atFront (words (tells (r .answer))) (now (out .entry)) ⌝ }
 {
     let w = words_of(r);
-    put_ten(out, w);
+    put_ten(out, w)
 }
 
-// Reads a file into lent rows, and puts the ten numbers into `out`.
+// Reads a file into lent rows, and puts the ten numbers into `out`; gives the refusal, 0 where the file is accepted.
 #[no_mangle]
 pub extern "C" fn llunareth_read(
     s: &[u8],
     storeys: &mut [Storey],
     members: &mut [Member],
     out: &mut [u64],
-)
+) -> u64
+    ensures { λ r. ⌜ r ≡ refusalTold (told (survey (now (s .entry)) (length (now (storeys .entry))) (length (now (members .entry))))) ⌝ }
     ensures { λ _. ⌜ now (out .exit) ≡ atFront (words (told (survey (now (s .entry)) (length (now (storeys .entry))) (length (now (members .entry)))))) (now (out .entry)) ⌝ }
     ensures { λ _. ⌜ now (storeys .exit) ≡ storeysAfter (survey (now (s .entry)) (length (now (storeys .entry))) (length (now (members .entry)))) (now (storeys .entry)) ⌝ }
     ensures { λ _. ⌜ now (members .exit) ≡ membersAfter (survey (now (s .entry)) (length (now (storeys .entry))) (length (now (members .entry)))) (now (members .entry)) ⌝ }
 {
     let r = reading::rows::read(s, storeys, members);
-    put_words(out, r);
+    put_words(out, r)
 }

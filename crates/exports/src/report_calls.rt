@@ -26,13 +26,14 @@ fn report_words(r: ReportJudgment) -> [u64; 10]
     }
 }
 
-fn put_report(out: &mut [u64], r: ReportJudgment)
+fn put_report(out: &mut [u64], r: ReportJudgment) -> u64
+    ensures { λ n. ⌜ n ≡ returnedReport (r .answer) .refusal ⌝ }
     ensures { λ _. ⌜ now (out .exit) ≡ atFront (ten (returnedReport (r .answer))) (now (out .entry)) ⌝ }
 {
-    put_ten(out, report_words(r));
+    put_ten(out, report_words(r))
 }
 
-// The report of a building, given as for its judgment: the sheet from the front of the bytes.
+// The report of a building, given as for its judgment: the sheet from the front of the bytes. Gives the refusal, 0 where there is none.
 #[no_mangle]
 pub extern "C" fn llunareth_report(
     header: &[u64],
@@ -40,13 +41,14 @@ pub extern "C" fn llunareth_report(
     members: &[Member],
     sheet: &mut [u8],
     out: &mut [u64],
-)
+) -> u64
+    ensures { λ r. ⌜ r ≡ reportReturned (headerBy (handed (now (header .entry)))) (now (storeys .entry)) (now (members .entry)) (length (now (sheet .entry))) .refusal ⌝ }
     ensures { λ _. ⌜ now (out .exit) ≡ atFront (ten (reportReturned (headerBy (handed (now (header .entry)))) (now (storeys .entry)) (now (members .entry)) (length (now (sheet .entry))))) (now (out .entry)) ⌝ }
     ensures { λ _. ⌜ now (sheet .exit) ≡ bufferAfter (headerBy (handed (now (header .entry)))) (now (storeys .entry)) (now (members .entry)) (now (sheet .entry)) ⌝ }
 {
     let h = header_given(header);
     let r = write_report(h, storeys, members, sheet);
-    put_report(out, r);
+    put_report(out, r)
 }
 
 // What `determine` prints for a file, from the front of the bytes; gives its length, 0 where it does not fit.

@@ -5,18 +5,20 @@ ghost use lib.ListN.{getD};
 ghost use Rattle.exports.specs.Words.{handed};
 ghost use Rattle.report.specs.Line.{atFront};
 
-// Writes ten numbers to the front of a buffer that holds them, and else nothing.
-pub(crate) fn put_ten(out: &mut [u64], w: [u64; 10])
+// Writes ten numbers to the front of a buffer that holds them, and else nothing; gives the first.
+pub(crate) fn put_ten(out: &mut [u64], w: [u64; 10]) -> u64
+    ensures { λ r. ⌜ r ≡ getD w 0 0 ⌝ }
     ensures { λ _. ⌜ now (out .exit) ≡ atFront w (now (out .entry)) ⌝ }
 {
     if out.len() < 10 {
-        return;
+        return w[0];
     }
     let mut i = 0;
     while i < 10 {
         out[i] = w[i];
         i += 1;
     }
+    w[0]
 }
 
 // The first 26 numbers of a slice; a number that is not given is outside every range.

@@ -77,9 +77,15 @@ impl Bench {
     fn run_proved(&mut self, stage: Stage) {
         let (header, storeys, members) = (black_box(&self.header), black_box(&self.storeys), black_box(&self.members));
         match stage {
-            Stage::Read => llunareth::raw::read(black_box(&self.bytes), &mut self.storey_rows, &mut self.member_rows, &mut self.out),
-            Stage::Judge => llunareth::raw::judge_building(header, storeys, members, &mut self.out),
-            Stage::Report => llunareth::raw::report(header, storeys, members, &mut self.sheet, &mut self.out),
+            Stage::Read => {
+                llunareth::raw::read(black_box(&self.bytes), &mut self.storey_rows, &mut self.member_rows, &mut self.out);
+            }
+            Stage::Judge => {
+                llunareth::raw::judge_building(header, storeys, members, &mut self.out);
+            }
+            Stage::Report => {
+                llunareth::raw::report(header, storeys, members, &mut self.sheet, &mut self.out);
+            }
             Stage::Whole => self.length = llunareth::raw::determine(black_box(&self.bytes), &mut self.sheet),
         }
     }

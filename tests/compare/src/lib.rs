@@ -53,11 +53,14 @@ fn refusal(r: llunareth::Refusal) -> Refusal {
     Refusal::at(r.number.try_into().expect("a number from 1 to 10"), r.line)
 }
 
-/// Panics unless a call puts out a refusal and nothing else but its line, or so many values and nothing else.
-fn assert_ten(values: usize, call: impl FnOnce(&mut [u64])) {
+/// Panics unless a call puts out a refusal and nothing else but its line, or so many values and nothing else; and returns that refusal, also
+/// where no number can be put out.
+fn assert_ten(values: usize, call: impl Fn(&mut [u64]) -> u64) {
     let mut out = [u64::MAX; 10];
-    call(&mut out);
-    if out[0] != 0 {
+    let returned = call(&mut out);
+    assert_eq!(returned, out[0], "the refusal returned and put out");
+    assert_eq!(call(&mut []), returned, "the refusal returned where there is no room");
+    if returned != 0 {
         assert_eq!(out[2..], [0; 8], "a refusal tells nothing else");
     } else {
         assert_eq!(out[1], 0, "what is accepted has no line");

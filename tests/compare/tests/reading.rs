@@ -113,7 +113,7 @@ fn a_short_buffer_is_left_alone_and_a_long_one_past_ten() {
     for n in [0, 9, 10, 12] {
         let (mut storeys, mut members) = ([StoreyRow::default(); 2], [MemberRow::default(); 3]);
         let mut out = vec![5; n];
-        raw::read(&bytes, &mut storeys, &mut members, &mut out);
+        assert_eq!(raw::read(&bytes, &mut storeys, &mut members, &mut out), 0);
         let kept = if n < 10 { 0 } else { 10 };
         assert_eq!(out[kept..], vec![5; n - kept]);
         assert_ne!(out[..kept].first(), Some(&5));

@@ -155,7 +155,8 @@ fn ten_numbers_go_out_or_none() {
     let rows = member_rows(&survey.members).expect("good members");
     for n in [0, 1, 9, 10, 12] {
         let mut out = vec![5; n];
-        raw::report(&header, &storeys, &rows, &mut pattern(272), &mut out);
+        assert_eq!(raw::report(&header, &storeys, &rows, &mut pattern(272), &mut out), 0);
+        assert_eq!(raw::report(&header, &storeys, &rows, &mut pattern(271), &mut vec![5; n]), 9);
         let put: &[u64] = if n < 10 { &[] } else { &[0, 0, 272, 0, 0, 0, 0, 0, 0, 0] };
         assert_eq!((&out[..put.len()], &out[put.len()..]), (put, &vec![5; n - put.len()][..]));
     }
@@ -168,7 +169,7 @@ fn a_header_with_a_missing_number_is_refused() {
     let rows = member_rows(&survey.members).expect("good members");
     for n in 0..6 {
         let (mut buffer, mut out) = (pattern(300), [u64::MAX; 10]);
-        raw::report(&header[..n], &storeys, &rows, &mut buffer, &mut out);
+        assert_eq!(raw::report(&header[..n], &storeys, &rows, &mut buffer, &mut out), 1);
         assert_eq!(out, [1, 0, 0, 0, 0, 0, 0, 0, 0, 0], "B with {n} fields");
         assert_eq!(buffer, pattern(300));
     }

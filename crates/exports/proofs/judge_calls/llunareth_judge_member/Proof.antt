@@ -31,9 +31,10 @@ same-length c = search needs
 returns : tie.Need-returns
 returns c =
     let m = c .before .before .before .before .before .before .member-of .ensures ∙ member-same (λ (j : ℕ). getD (c .before .before .before .before .before .before .before .values-of .result) j 0) (handed (c .before .before .before .before .before .before .before .before .before .before .args .values .now)) (c .before .before .before .before .before .before .before .values-of .ensures) in
-    c .before .before .put-ten .ensures
-    ∙ ap (λ (w : List ℕ). atFront w (c .before .before .before .before .before .before .before .before .before .before .args .out .now)) (c .before .before .before .member-words .ensures)
-    ∙ ap (λ (r : Returned). atFront (ten r) (c .before .before .before .before .before .before .before .before .before .before .args .out .now)) (c .before .before .before .before .before .judge-member .ensures .1 ∙ ap (memberReturned (c .before .before .before .before .before .before .before .before .before .before .args .k) (c .before .before .before .before .before .before .before .before .before .before .args .met)) m)
+    let w = c .before .before .before .member-words .ensures in
+    let e = c .before .before .before .before .before .judge-member .ensures .1 ∙ ap (memberReturned (c .before .before .before .before .before .before .before .before .before .before .args .k) (c .before .before .before .before .before .before .before .before .before .before .args .met)) m in
+    let p = c .before .before .put-ten .ensures in
+    (p .0 ∙ ap (λ (w : List ℕ). getD w 0 0) w ∙ ap (λ (r : Returned). r .refusal) e, p .1 ∙ ap (λ (w : List ℕ). atFront w (c .before .before .before .before .before .before .before .before .before .before .args .out .now)) w ∙ ap (λ (r : Returned). atFront (ten r) (c .before .before .before .before .before .before .before .before .before .before .args .out .now)) e)
 
 pub llunareth-judge-member-spec : {M : Type 1} → statement M
 llunareth-judge-member-spec =

@@ -9,8 +9,9 @@ use borrow.Fn.Args.{vAt}
 use borrow.Fn.World.{World}
 use borrow.Rule.Slice.Mut.{msleft}
 use borrow.Rule.Slice.Relend.{asMut, msptr, mslice-owed}
-use borrow.Table.Row.{Cx, lease, off, alive, dead, sUnit}
-use Rattle.walk.proofs.Walk.{S, _⨾_, _▸_, at, slot, from, set, unit, fld, sc, gone, old, forget, ret, same, u64}
+use borrow.Table.Row.{Cx, lease, off, alive, dead}
+use borrow.Table.Rows.{sc-here}
+use Rattle.walk.proofs.Walk.{told, S, _⨾_, _▸_, at, slot, from, fld, sc, gone, old, forget, ret, same, u64}
 use Rattle.walk.proofs.Slice.{R, kept, full, here, val-at, sh-at, sh-spares, sh-reads, mut-at, mut-is, mut-reads, slice, lend-on, back-on, owed-len}
 use Rattle.walk.proofs.Array.{begin, end, over}
 use Rattle.walk.proofs.Fn.{Callee, Knows, Body, Answers, entry, callee, knows, call, meets}
@@ -56,33 +57,31 @@ abbrev τ2 : Ty
 abbrev τ3 : Ty
 τ3 = tyRef (named 1) imm (pointee (R member .written))
 
-abbrev τ9 : Ty
-τ9 = tyRef erased mut (tyInt w64)
+abbrev τ8 : Ty
+τ8 = tyRef erased mut (tyInt w64)
 
 abbrev start : Lfts 3 → Shares 3 → Cx
 start κs qs = entry Says.llunareth-judge-storey K 1 Code.function κs qs
 
 abbrev cx1 : Lfts 3 → Shares 3 → Cx
-cx1 κs qs = at 4 (mslice-owed (words) (tyRef (named 2) mut (tyInt w64)) 2 3 (lease (κs .1 .1 .0) (qs .1 .1 .0))) (at 6 (kept storeyjudgment) (at 8 (msptr (words) (tyRef erased mut (tyInt w64)) 3) (slot 2 off (slot 3 alive (start κs qs)))))
+cx1 κs qs = at 4 (mslice-owed (words) (tyRef (named 2) mut (tyInt w64)) 2 3 (lease (κs .1 .1 .0) (qs .1 .1 .0))) (at 6 (kept storeyjudgment) (at 7 (msptr (words) (tyRef erased mut (tyInt w64)) 3) (slot 2 off (slot 3 alive (start κs qs)))))
 
 abbrev cx2 : Lfts 3 → Shares 3 → Cx
-cx2 κs qs = at 4 (mslice-owed (words) (tyRef (named 2) mut (tyInt w64)) 2 3 (lease (κs .1 .1 .0) (qs .1 .1 .0))) (at 9 (msleft (words) (tyRef erased mut (tyInt w64))) (slot 2 off (slot 3 dead (start κs qs))))
+cx2 κs qs = at 4 (mslice-owed (words) (tyRef (named 2) mut (tyInt w64)) 2 3 (lease (κs .1 .1 .0) (qs .1 .1 .0))) (at 0 (sc-here u64) (at 8 (msleft (words) (tyRef erased mut (tyInt w64))) (slot 2 off (slot 3 dead (start κs qs)))))
 
 abbrev body : Body Says.llunareth-judge-storey K 1 Code.function
 body κs qs bs =
     call the-storey-given (λ s k. k .0) 5 (0 ∷ []) (sh-at 2 τ2 (λ x. x), tt) (λ s. (sh-spares s words τ2 0, sh-reads s words τ2 0, refl, tt)) gone (tt, tt) refl ⨾
     call the-judge-storey (λ s k. k .1) 6 (1 ∷ []) (vAt 1 (λ x. x), (val-at 5 (λ x. x), (sh-at 3 τ3 (λ x. x), tt))) (λ s. ((sc u64 .is s, refl), ((here storey .is s, refl), (sh-spares s (R member) τ3 1, sh-reads s (R member) τ3 1, refl, tt)))) gone (tt, tt) refl ⨾
     forget 5 (full storey) ▸
-    begin 3 (tt, (tt, (tt, (tt, (tt, (tt, (tt, (tt, (tt, (tt, tt)))))))))) ▸
-    lend-on words 8 4 2 3 same gone tt refl refl (λ b o. tt) ⨾
-    from (cx1 κs qs) (slice words (asMut words) 9 8 3 (fld 4 1 (owed-len words 2 3 (lease (κs .1 .1 .0) (qs .1 .1 .0))) refl) same gone refl refl (λ b o k. tt) ⨾
-    call the-put-storey (λ s k. k .2) 7 (3 ∷ []) (mut-at 9 τ9 (λ x. x), (val-at 6 (λ x. x), tt)) (λ s. (mut-is s words τ9 3, mut-reads s words τ9 3, refl, ((here storeyjudgment .is s, refl), tt))) gone (tt, tt) refl ⨾
+    begin 3 (tt, (tt, (tt, (tt, (tt, (tt, (tt, (tt, (tt, tt))))))))) ▸
+    lend-on words 7 4 2 3 same gone tt refl refl (λ b o. tt) ⨾
+    from (cx1 κs qs) (slice words (asMut words) 8 7 3 (fld 4 1 (owed-len words 2 3 (lease (κs .1 .1 .0) (qs .1 .1 .0))) refl) same gone refl refl (λ b o k. tt) ⨾
+    call the-put-storey (λ s k. k .2) 0 (3 ∷ []) (mut-at 8 τ8 (λ x. x), (val-at 6 (λ x. x), tt)) (λ s. (mut-is s words τ8 3, mut-reads s words τ8 3, refl, ((here storeyjudgment .is s, refl), tt))) gone (tt, tt) refl ⨾
     forget 6 (full storeyjudgment) ▸
-    forget 7 (old sUnit) ▸
     end 3 refl ▸
-    from (cx2 κs qs) (back-on words 9 4 2 3 (lease (κs .1 .1 .0) (qs .1 .1 .0)) same same refl refl ▸
+    from (cx2 κs qs) (back-on words 8 4 2 3 (lease (κs .1 .1 .0) (qs .1 .1 .0)) same same refl refl ▸
     over 3 ▸
-    set 0 sUnit unit gone refl (λ u. refl) (λ u. tt) ⨾
     forget 1 (old u64) ▸
     ret tt))
 
@@ -99,7 +98,7 @@ answers κs qs a good pre bs = (
           refl,
           λ back. (
             (tt, (refl, (refl, (fix-len (a .1 .1 .1 .0 .ptr) (a .1 .1 .1 .0 .name) (p .2 .0) (a .1 .1 .1 .0 .now) back, tt)))),
-            p .5 ∙ ap (λ (r : Returned). atFront (ten r) (a .1 .1 .1 .0 .now)) (g .5 .1 ∙ ap (λ (x : Storey). storeyReturned (a .0) x (a .1 .1 .0 .now)) (s .5)),
+            told (g .5 .1 ∙ ap (λ (x : Storey). storeyReturned (a .0) x (a .1 .1 .0 .now)) (s .5)) λ e. (p .5 .0 ∙ ap (λ (r : Returned). r .refusal) e, p .5 .1 ∙ ap (λ (r : Returned). atFront (ten r) (a .1 .1 .1 .0 .now)) e),
           ),
         ),
       ),

@@ -8,15 +8,15 @@ use borrow.Kind.MutSlice.{fix-len}
 use borrow.Fn.World.{World}
 use borrow.Rule.Slice.Mut.{mslice, msleft}
 use borrow.Rule.Slice.Relend.{asMut, mslice-owed}
-use borrow.Table.Row.{Cx, lease, off, alive, dead, sUnit}
+use borrow.Table.Row.{Cx, lease, off, alive, dead}
 use borrow.Table.Rows.{sc-here}
-use Rattle.walk.proofs.Walk.{S, _⨾_, _▸_, at, slot, from, set, unit, fld, gone, old, forget, ret, same}
+use Rattle.walk.proofs.Walk.{S, _⨾_, _▸_, at, slot, from, fld, gone, forget, ret, same, u64}
 use Rattle.walk.proofs.Slice.{R, kept, full, here, val-at, sh-at, sh-spares, sh-reads, mut-at, mut-is, mut-reads, slice, lend-on, back-on, owed-len}
 use Rattle.walk.proofs.Array.{begin, end, over}
 use Rattle.walk.proofs.Fn.{Callee, Knows, Body, Answers, entry, callee, knows, call, meets}
 use Rattle.reading.proofs.Structs.{member, reading, storey}
 use Rattle.reading.specs.Answer.{Told}
-use Rattle.exports.specs.Words.{words as wordsOf}
+use Rattle.exports.specs.Words.{words as wordsOf, refusalTold}
 use Rattle.report.specs.Line.{atFront}
 use Rattle.exports.proofs.Says as Says
 use Rattle.exports.proofs.Says.{bytes, words}
@@ -49,8 +49,8 @@ abbrev τ7 : Ty
 abbrev τ9 : Ty
 τ9 = tyRef erased mut (pointee (R member .written))
 
-abbrev τ12 : Ty
-τ12 = tyRef erased mut (tyInt w64)
+abbrev τ11 : Ty
+τ11 = tyRef erased mut (tyInt w64)
 
 abbrev start : Lfts 4 → Shares 4 → Cx
 start κs qs = entry Says.llunareth-read K 3 Code.function κs qs
@@ -62,14 +62,14 @@ abbrev cx2 : Lfts 4 → Shares 4 → Cx
 cx2 κs qs = at 5 (kept reading) (slot 5 dead (start κs qs))
 
 abbrev cx3 : Lfts 4 → Shares 4 → Cx
-cx3 κs qs = at 4 (mslice-owed (words) (tyRef (named 3) mut (tyInt w64)) 3 6 (lease (κs .1 .1 .1 .0) (qs .1 .1 .1 .0))) (at 10 (sc-here sUnit) (at 12 (msleft (words) (tyRef erased mut (tyInt w64))) (slot 3 off (slot 6 alive (start κs qs)))))
+cx3 κs qs = at 4 (mslice-owed (words) (tyRef (named 3) mut (tyInt w64)) 3 6 (lease (κs .1 .1 .1 .0) (qs .1 .1 .1 .0))) (at 0 (sc-here u64) (at 11 (msleft (words) (tyRef erased mut (tyInt w64))) (slot 3 off (slot 6 alive (start κs qs)))))
 
 abbrev body : Body Says.llunareth-read K 3 Code.function
 body κs qs bs =
-    begin 4 (tt, (tt, (tt, (tt, (tt, (tt, (tt, (tt, (tt, (tt, (tt, (tt, (tt, tt))))))))))))) ▸
+    begin 4 (tt, (tt, (tt, (tt, (tt, (tt, (tt, (tt, (tt, (tt, (tt, (tt, tt)))))))))))) ▸
     lend-on (R storey) 6 2 1 4 same gone tt refl refl (λ b o. tt) ⨾
     slice (R storey) (asMut (R storey)) 7 6 4 (fld 2 1 (owed-len (R storey) 1 4 (lease (κs .1 .0) (qs .1 .0))) refl) same gone refl refl (λ b o k. tt) ⨾
-    begin 5 (tt, (tt, ((tt, tt), (tt, (tt, (tt, (tt, (tt, (tt, (tt, (tt, (tt, (tt, tt))))))))))))) ▸
+    begin 5 (tt, (tt, ((tt, tt), (tt, (tt, (tt, (tt, (tt, (tt, (tt, (tt, (tt, tt)))))))))))) ▸
     lend-on (R member) 8 3 2 5 same gone tt refl refl (λ b o. tt) ⨾
     slice (R member) (asMut (R member)) 9 8 5 (fld 3 1 (owed-len (R member) 2 5 (lease (κs .1 .1 .0) (qs .1 .1 .0))) refl) same gone refl refl (λ b o k. tt) ⨾
     from (cx1 κs qs) (call the-read (λ s k. k .0) 5 (0 ∷ 4 ∷ 5 ∷ []) (sh-at 1 τ1 (λ x. x), (mut-at 7 τ7 (λ x. x), (mut-at 9 τ9 (λ x. x), tt))) (λ s. (sh-spares s bytes τ1 0, sh-reads s bytes τ1 0, refl, (mut-is s (R storey) τ7 4, mut-reads s (R storey) τ7 4, refl, (mut-is s (R member) τ9 5, mut-reads s (R member) τ9 5, refl, tt)))) gone (tt, (tt, (tt, tt))) refl ⨾
@@ -79,16 +79,14 @@ body κs qs bs =
     end 5 refl ▸
     back-on (R member) 9 3 2 5 (lease (κs .1 .1 .0) (qs .1 .1 .0)) same same refl refl ▸
     from (cx2 κs qs) (over 5 ▸
-    begin 6 (tt, (tt, (tt, (tt, (tt, (tt, (tt, (tt, (tt, (tt, (tt, (tt, (tt, tt))))))))))))) ▸
-    lend-on words 11 4 3 6 same gone tt refl refl (λ b o. tt) ⨾
-    slice words (asMut words) 12 11 6 (fld 4 1 (owed-len words 3 6 (lease (κs .1 .1 .1 .0) (qs .1 .1 .1 .0))) refl) same gone refl refl (λ b o k. tt) ⨾
-    call the-put-words (λ s k. k .1) 10 (6 ∷ []) (mut-at 12 τ12 (λ x. x), (val-at 5 (λ x. x), tt)) (λ s. (mut-is s words τ12 6, mut-reads s words τ12 6, refl, ((here reading .is s, refl), tt))) gone (tt, tt) refl ⨾
+    begin 6 (tt, (tt, (tt, (tt, (tt, (tt, (tt, (tt, (tt, (tt, (tt, (tt, tt)))))))))))) ▸
+    lend-on words 10 4 3 6 same gone tt refl refl (λ b o. tt) ⨾
+    slice words (asMut words) 11 10 6 (fld 4 1 (owed-len words 3 6 (lease (κs .1 .1 .1 .0) (qs .1 .1 .1 .0))) refl) same gone refl refl (λ b o k. tt) ⨾
+    call the-put-words (λ s k. k .1) 0 (6 ∷ []) (mut-at 11 τ11 (λ x. x), (val-at 5 (λ x. x), tt)) (λ s. (mut-is s words τ11 6, mut-reads s words τ11 6, refl, ((here reading .is s, refl), tt))) gone (tt, tt) refl ⨾
     forget 5 (full reading) ▸
-    from (cx3 κs qs) (forget 10 (old sUnit) ▸
-    end 6 refl ▸
-    back-on words 12 4 3 6 (lease (κs .1 .1 .1 .0) (qs .1 .1 .1 .0)) same same refl refl ▸
+    from (cx3 κs qs) (end 6 refl ▸
+    back-on words 11 4 3 6 (lease (κs .1 .1 .1 .0) (qs .1 .1 .1 .0)) same same refl refl ▸
     over 6 ▸
-    set 0 sUnit unit gone refl (λ u. refl) (λ u. tt) ⨾
     ret tt)))
 
 answers : Answers Says.llunareth-read K 3 Code.function body
@@ -120,7 +118,7 @@ answers κs qs a good pre bs = λ γ. (
                           ),
                         ),
                       ),
-                      (h .5 ∙ ap (λ (t : Told). atFront (wordsOf t) (a .1 .1 .1 .0 .now)) (g .5 .0), (g .5 .1 .0, g .5 .1 .1)),
+                      (h .5 .0 ∙ ap refusalTold (g .5 .0), (h .5 .1 ∙ ap (λ (t : Told). atFront (wordsOf t) (a .1 .1 .1 .0 .now)) (g .5 .0), (g .5 .1 .0, g .5 .1 .1))),
                     ),
                   ),
                 ),

@@ -2,7 +2,10 @@ use borrow.Author.Needs.{needs}
 use mathlib.Core.Path.{ap, _∙_}
 use mathlib.Core.List.{List}
 use Prim.Native.Nat.{ℕ}
+use lib.ListN.{getD}
+use Rattle.reading.specs.Answer.{tells}
 use Rattle.report.specs.Line.{atFront}
+use Rattle.exports.proofs.Front.{first-word}
 use Rattle.exports.proofs.reading_call.put_words.Statement.{statement}
 use Rattle.exports.proofs.reading_call.put_words.Tie as tie
 
@@ -16,7 +19,10 @@ same-length : tie.Need-same-length
 same-length c = search needs
 
 returns : tie.Need-returns
-returns c = c .before .before .put-ten .ensures ∙ ap (λ (w : List ℕ). atFront w (c .before .before .before .before .before .before .args .out .now)) (c .before .before .before .before .words-of .ensures)
+returns c =
+    let e = c .before .before .before .before .words-of .ensures in
+    let p = c .before .before .put-ten .ensures in
+    (p .0 ∙ ap (λ (w : List ℕ). getD w 0 0) e ∙ first-word (tells (c .before .before .before .before .before .before .args .r .answer)), p .1 ∙ ap (λ (w : List ℕ). atFront w (c .before .before .before .before .before .before .args .out .now)) e)
 
 pub put-words-spec : {M : Type 1} → statement M
 put-words-spec = tie.close (tie.spec words-of-requires put-ten-requires same-length returns)

@@ -9,8 +9,9 @@ use borrow.Kind.MutSlice.{fix-len}
 use borrow.Fn.World.{World}
 use borrow.Rule.Slice.Mut.{mslice, msleft}
 use borrow.Rule.Slice.Relend.{asMut, mslice-owed}
-use borrow.Table.Row.{Cx, lease, off, alive, dead, sUnit}
-use Rattle.walk.proofs.Walk.{S, _⨾_, _▸_, at, slot, from, set, unit, fld, gone, old, forget, ret, same}
+use borrow.Table.Row.{Cx, lease, off, alive, dead}
+use borrow.Table.Rows.{sc-here}
+use Rattle.walk.proofs.Walk.{told, S, _⨾_, _▸_, at, slot, from, fld, gone, forget, ret, same, u64}
 use Rattle.walk.proofs.Slice.{R, kept, full, here, val-at, sh-at, sh-spares, sh-reads, mut-at, mut-is, mut-reads, slice, lend-on, back-on, owed-len}
 use Rattle.walk.proofs.Array.{begin, end, over}
 use Rattle.walk.proofs.Fn.{Callee, Knows, Body, Answers, entry, callee, knows, call, meets}
@@ -62,8 +63,8 @@ abbrev τ3 : Ty
 abbrev τ9 : Ty
 τ9 = tyRef erased mut (tyInt w8)
 
-abbrev τ12 : Ty
-τ12 = tyRef erased mut (tyInt w64)
+abbrev τ11 : Ty
+τ11 = tyRef erased mut (tyInt w64)
 
 abbrev start : Lfts 5 → Shares 5 → Cx
 start κs qs = entry Says.llunareth-report K 2 Code.function κs qs
@@ -78,16 +79,16 @@ cx2 κs qs = at 4 (mslice-owed bytes (tyRef (named 3) mut (tyInt w8)) 3 5 (lease
 
 -- the numbers are lent
 abbrev cx3 : Lfts 5 → Shares 5 → Cx
-cx3 κs qs = at 5 (mslice-owed words (tyRef (named 4) mut (tyInt w64)) 4 6 (lease (κs .1 .1 .1 .1 .0) (qs .1 .1 .1 .1 .0))) (at 7 (kept reportjudgment) (at 12 (mslice words τ12 6) (slot 4 off (slot 6 alive (start κs qs)))))
+cx3 κs qs = at 5 (mslice-owed words (tyRef (named 4) mut (tyInt w64)) 4 6 (lease (κs .1 .1 .1 .1 .0) (qs .1 .1 .1 .1 .0))) (at 7 (kept reportjudgment) (at 11 (mslice words τ11 6) (slot 4 off (slot 6 alive (start κs qs)))))
 
 -- they are put
 abbrev cx4 : Lfts 5 → Shares 5 → Cx
-cx4 κs qs = at 5 (mslice-owed words (tyRef (named 4) mut (tyInt w64)) 4 6 (lease (κs .1 .1 .1 .1 .0) (qs .1 .1 .1 .1 .0))) (at 12 (msleft words τ12) (slot 4 off (slot 6 dead (start κs qs))))
+cx4 κs qs = at 5 (mslice-owed words (tyRef (named 4) mut (tyInt w64)) 4 6 (lease (κs .1 .1 .1 .1 .0) (qs .1 .1 .1 .1 .0))) (at 0 (sc-here u64) (at 11 (msleft words τ11) (slot 4 off (slot 6 dead (start κs qs)))))
 
 abbrev body : Body Says.llunareth-report K 2 Code.function
 body κs qs bs =
     call the-header-given (λ s k. k .0) 6 (0 ∷ []) (sh-at 1 τ1 (λ x. x), tt) (λ s. (sh-spares s words τ1 0, sh-reads s words τ1 0, refl, tt)) gone (tt, tt) refl ⨾
-    begin 5 (tt, (tt, (tt, (tt, (tt, (tt, (tt, (tt, (tt, (tt, (tt, (tt, (tt, tt))))))))))))) ▸
+    begin 5 (tt, (tt, (tt, (tt, (tt, (tt, (tt, (tt, (tt, (tt, (tt, (tt, tt)))))))))))) ▸
     lend-on bytes 8 4 3 5 same gone tt refl refl (λ b o. tt) ⨾
     slice bytes (asMut bytes) 9 8 5 (fld 4 1 (owed-len bytes 3 5 (lease (κs .1 .1 .1 .0) (qs .1 .1 .1 .0))) refl) same gone refl refl (λ b o k. tt) ⨾
     from (cx1 κs qs) (call the-write-report (λ s k. k .1) 7 (1 ∷ 2 ∷ 5 ∷ []) (val-at 6 (λ x. x), (sh-at 2 τ2 (λ x. x), (sh-at 3 τ3 (λ x. x), (mut-at 9 τ9 (λ x. x), tt)))) (λ s. ((here header .is s, refl), (sh-spares s (R storey) τ2 1, sh-reads s (R storey) τ2 1, refl, (sh-spares s (R member) τ3 2, sh-reads s (R member) τ3 2, refl, (mut-is s bytes τ9 5, mut-reads s bytes τ9 5, refl, tt))))) gone (tt, (tt, (tt, tt))) refl ⨾
@@ -95,16 +96,14 @@ body κs qs bs =
     end 5 refl ▸
     from (cx2 κs qs) (back-on bytes 9 4 3 5 (lease (κs .1 .1 .1 .0) (qs .1 .1 .1 .0)) same same refl refl ▸
     over 5 ▸
-    begin 6 (tt, (tt, (tt, (tt, (tt, (tt, (tt, (tt, (tt, (tt, (tt, (tt, (tt, tt))))))))))))) ▸
-    lend-on words 11 5 4 6 same gone tt refl refl (λ b o. tt) ⨾
-    slice words (asMut words) 12 11 6 (fld 5 1 (owed-len words 4 6 (lease (κs .1 .1 .1 .1 .0) (qs .1 .1 .1 .1 .0))) refl) same gone refl refl (λ b o k. tt) ⨾
-    from (cx3 κs qs) (call the-put-report (λ s k. k .2) 10 (6 ∷ []) (mut-at 12 τ12 (λ x. x), (val-at 7 (λ x. x), tt)) (λ s. (mut-is s words τ12 6, mut-reads s words τ12 6, refl, ((here reportjudgment .is s, refl), tt))) gone (tt, tt) refl ⨾
+    begin 6 (tt, (tt, (tt, (tt, (tt, (tt, (tt, (tt, (tt, (tt, (tt, (tt, tt)))))))))))) ▸
+    lend-on words 10 5 4 6 same gone tt refl refl (λ b o. tt) ⨾
+    slice words (asMut words) 11 10 6 (fld 5 1 (owed-len words 4 6 (lease (κs .1 .1 .1 .1 .0) (qs .1 .1 .1 .1 .0))) refl) same gone refl refl (λ b o k. tt) ⨾
+    from (cx3 κs qs) (call the-put-report (λ s k. k .2) 0 (6 ∷ []) (mut-at 11 τ11 (λ x. x), (val-at 7 (λ x. x), tt)) (λ s. (mut-is s words τ11 6, mut-reads s words τ11 6, refl, ((here reportjudgment .is s, refl), tt))) gone (tt, tt) refl ⨾
     forget 7 (full reportjudgment) ▸
-    forget 10 (old sUnit) ▸
     end 6 refl ▸
-    from (cx4 κs qs) (back-on words 12 5 4 6 (lease (κs .1 .1 .1 .1 .0) (qs .1 .1 .1 .1 .0)) same same refl refl ▸
+    from (cx4 κs qs) (back-on words 11 5 4 6 (lease (κs .1 .1 .1 .1 .0) (qs .1 .1 .1 .1 .0)) same same refl refl ▸
     over 6 ▸
-    set 0 sUnit unit gone refl (λ u. refl) (λ u. tt) ⨾
     ret tt))))
 
 answers : Answers Says.llunareth-report K 2 Code.function body
@@ -124,9 +123,12 @@ answers κs qs a good pre bs = (
               refl,
               λ last. (
                 (refl, (refl, (refl, (fix-len (a .1 .1 .1 .0 .ptr) (a .1 .1 .1 .0 .name) (r .2 .1 .1 .1 .0) (a .1 .1 .1 .0 .now) back, (fix-len (a .1 .1 .1 .1 .0 .ptr) (a .1 .1 .1 .1 .0 .name) (p .2 .0) (a .1 .1 .1 .1 .0 .now) last, tt))))),
-                (
-                  p .5 ∙ ap (λ (t : Returned). atFront (ten t) (a .1 .1 .1 .1 .0 .now)) (r .5 .1 .0 ∙ ap (λ (x : Header). reportReturned x (a .1 .0 .now) (a .1 .1 .0 .now) (length (a .1 .1 .1 .0 .now))) (h .5)),
-                  r .5 .1 .1 ∙ ap (λ (x : Header). bufferAfter x (a .1 .0 .now) (a .1 .1 .0 .now) (a .1 .1 .1 .0 .now)) (h .5),
+                told (r .5 .1 .0 ∙ ap (λ (x : Header). reportReturned x (a .1 .0 .now) (a .1 .1 .0 .now) (length (a .1 .1 .1 .0 .now))) (h .5)) λ e. (
+                  p .5 .0 ∙ ap (λ (t : Returned). t .refusal) e,
+                  (
+                    p .5 .1 ∙ ap (λ (t : Returned). atFront (ten t) (a .1 .1 .1 .1 .0 .now)) e,
+                    r .5 .1 .1 ∙ ap (λ (x : Header). bufferAfter x (a .1 .0 .now) (a .1 .1 .0 .now) (a .1 .1 .1 .0 .now)) (h .5),
+                  ),
                 ),
               ),
             ),

@@ -14,8 +14,11 @@ Inv-loop out₀ w i₀ out i = (i ≤ 10) × (10 ≤ length out₀) × (length w
 abbrev μ-loop : tie.MeasureT-loop
 μ-loop out₀ w i₀ out i = 10 - i
 
+array-read-result : tie.Need-array-read-result Inv-loop μ-loop
+array-read-result c = search needs
+
 returns : tie.Need-returns Inv-loop μ-loop
-returns c = let e : length (c .before .args .t2) ≡ 10 = search needs in put-none (c .before .args .t2) (c .before .args .out .now) e (c .if1 .taken)
+returns c = let e : length (c .before .args .t2) ≡ 10 = search needs in (refl, put-none (c .before .args .t2) (c .before .args .out .now) e (c .if1 .taken))
 
 loop-holds : tie.Need-loop-holds Inv-loop μ-loop
 loop-holds c = (omega arith, c .if1 .left, search needs, refl, refl)
@@ -41,11 +44,14 @@ loop-less c = search needs
 loop-again : tie.Need-loop-again Inv-loop μ-loop
 loop-again c = (omega arith, c .before .loop .inv .1, c .before .loop .inv .2, simp length-set (c .before .loop .inv .3), front-step (c .before .before .before .args .t2) (c .before .before .before .args .out .now) (c .before .loop .out) (c .before .loop .i) (omega arith) (omega arith) (c .before .loop .inv .4))
 
+array-read-result-2 : tie.Need-array-read-result-2 Inv-loop μ-loop
+array-read-result-2 c = search needs
+
 same-length : tie.Need-same-length Inv-loop μ-loop
 same-length c = c .before .loop .inv .3
 
 returns-2 : tie.Need-returns-2 Inv-loop μ-loop
-returns-2 c = put-all (c .before .before .before .args .out .now) (c .before .before .before .args .t2) (c .before .loop .out) (c .before .loop .i) (c .before .loop .inv .2) (c .before .loop .inv .1) (c .loop-test .left) (c .before .loop .inv .0) (c .before .loop .inv .4)
+returns-2 c = (refl, put-all (c .before .before .before .args .out .now) (c .before .before .before .args .t2) (c .before .loop .out) (c .before .loop .i) (c .before .loop .inv .2) (c .before .loop .inv .1) (c .loop-test .left) (c .before .loop .inv .0) (c .before .loop .inv .4))
 
 pub put-ten-spec : {M : Type 1} → statement M
 put-ten-spec =
@@ -53,6 +59,7 @@ put-ten-spec =
     (tie.spec
     Inv-loop
     μ-loop
+    array-read-result
     returns
     loop-holds
     mul-out
@@ -62,5 +69,6 @@ put-ten-spec =
     add-i
     loop-less
     loop-again
+    array-read-result-2
     same-length
     returns-2)
