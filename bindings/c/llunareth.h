@@ -31,8 +31,8 @@ enum {
     LLUNARETH_MEMBER_NUMBERS = 26
 };
 
-/* N_D and N_K are counted from -1,000,000: this number stands for 0. */
-enum { LLUNARETH_ZERO_FORCE = 1000000 };
+/* N_D and N_K are counted from -20,000,000: this number stands for 0. A force handed in as it is, is refused by 3. */
+enum { LLUNARETH_ZERO_FORCE = 20000000 };
 
 /* What llunareth_determine takes and lends: the longest file and the rows it is read into, and the longest sheet. */
 enum {
@@ -51,7 +51,7 @@ struct llunareth_storey {
 
 /* What one load case brings to a member: fields 19 to 26. Forces are in 0.1 kN, moments in 0.1 kNm. */
 struct llunareth_load_case {
-    uint64_t nk;       /* N_K, counted from -1,000,000 */
+    uint64_t nk;       /* N_K, counted from -20,000,000 */
     uint64_t me;       /* M_e, moment demand */
     uint64_t mp;       /* M_p, moment capacity */
     uint64_t ve;       /* V_e, shear demand */
@@ -83,7 +83,7 @@ struct llunareth_member {
     uint64_t strengthened; /* 0 or 1 */
     uint64_t factor;       /* reduction factor, hundredths */
     uint64_t damage;       /* worst damage kind, 0 to 4 */
-    uint64_t nd;           /* N_D, 0.1 kN, counted from -1,000,000 */
+    uint64_t nd;           /* N_D, 0.1 kN, counted from -20,000,000 */
     struct llunareth_load_case load_case;
 };
 

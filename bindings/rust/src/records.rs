@@ -1,7 +1,7 @@
 //! The records of a survey, laid out as the proved library has them. Ranges stand in docs/FORMAT.md.
 
-/// N_D and N_K are counted from -1,000,000: this number stands for 0.
-pub const ZERO_FORCE: u64 = 1_000_000;
+/// N_D and N_K are counted from -20,000,000: this number stands for 0. A force handed in as it is, is refused by 3.
+pub const ZERO_FORCE: u64 = 20_000_000;
 
 /// The B line.
 #[repr(C)]
@@ -66,7 +66,7 @@ pub struct Member {
     pub factor: u64,
     /// Worst damage kind, 0 to 4.
     pub damage: u64,
-    /// N_D, counted from -1,000,000 ([`ZERO_FORCE`]).
+    /// N_D, counted from -20,000,000 ([`ZERO_FORCE`]).
     pub nd: u64,
     pub case: LoadCase,
 }
@@ -75,7 +75,7 @@ pub struct Member {
 #[repr(C)]
 #[derive(Clone, Copy, Debug, Default, PartialEq, Eq, Hash)]
 pub struct LoadCase {
-    /// N_K, counted from -1,000,000 ([`ZERO_FORCE`]).
+    /// N_K, counted from -20,000,000 ([`ZERO_FORCE`]).
     pub nk: u64,
     /// M_e, moment demand.
     pub me: u64,

@@ -2,6 +2,7 @@
 ghost use mathlib.Core.Path.{_≡_};
 ghost use lib.ListN.{length};
 ghost use Rattle.reading.specs.Answer.{tells};
+ghost use Rattle.reading.specs.Lines.{storeyBy, memberBy};
 ghost use Rattle.determination.specs.Answers.{headerTold, membersTold, lengthBy, bytesBy, lengthTold, bytesTold};
 use reading::lines::member_of;
 use reading::lines::storey_of;
@@ -16,11 +17,15 @@ use report::ReportJudgment;
 use report::refusal_line::write_refusal;
 
 // What the rows hold before a file is read into them.
-pub(crate) fn blank_storey() -> Storey {
+pub(crate) fn blank_storey() -> Storey
+    ensures { λ r. ⌜ r ≡ storeyBy (λ _. 0) ⌝ }
+{
     storey_of([0; 26])
 }
 
-pub(crate) fn blank_member() -> Member {
+pub(crate) fn blank_member() -> Member
+    ensures { λ r. ⌜ r ≡ memberBy (λ _. 0) ⌝ }
+{
     member_of([0; 26])
 }
 

@@ -1,5 +1,5 @@
 // The calls on a member, a storey and a building. A record handed in as numbers has them in the order of its line, N_D and N_K counted from
-// -1,000,000; a number that is not given is outside every range.
+// -20,000,000; a number that is not given is outside every range.
 ghost use mathlib.Core.Path.{_≡_};
 ghost use Rattle.reading.specs.Lines.{headerBy, memberBy, storeyBy};
 ghost use Rattle.storeys.specs.Storey.{returnedStorey, storeyReturned};

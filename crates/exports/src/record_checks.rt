@@ -1,4 +1,4 @@
-// The checks of one record, given by its numbers in the order of its line, N_D and N_K counted from -1,000,000; a number that is not given is
+// The checks of one record, given by its numbers in the order of its line, N_D and N_K counted from -20,000,000; a number that is not given is
 // outside every range.
 ghost use mathlib.Core.Path.{_≡_};
 ghost use Rattle.reading.specs.Records.{headerFault, storeyFault, memberFault};

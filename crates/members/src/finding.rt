@@ -17,6 +17,7 @@ use crate::units::Microradians;
 use crate::units::Ratio;
 use reading::ranges::member_fault;
 use reading::records::Member;
+use reading::records::ZERO_FORCE;
 
 pub struct Finding {
     pub class: Class,
@@ -35,18 +36,18 @@ pub enum MemberAnswer {
     Refused(u64),
 }
 
-// The compression of a force counted from -1,000,000; 0 under tension.
+// The compression of a force counted from -20,000,000; 0 under tension.
 fn compression(force: u64) -> u64
     ensures { λ r. ⌜ r ≡ compression force ⌝ }
 {
-    if force <= 1_000_000 {
+    if force <= ZERO_FORCE {
         return 0;
     }
-    force - 1_000_000
+    force - ZERO_FORCE
 }
 
 fn axial(force: u64, fcm: u64, area: u64) -> Ratio
-    requires { ⌜ (force ≤ 10_999_999) × (1 ≤ fcm) × (fcm ≤ 9_999) × (1 ≤ area) × (area ≤ 9_999_999) ⌝ }
+    requires { ⌜ (force ≤ 29_999_999) × (1 ≤ fcm) × (fcm ≤ 9_999) × (1 ≤ area) × (area ≤ 9_999_999) ⌝ }
     ensures { λ r. ⌜ r ≡ axial force fcm area ⌝ }
 {
     let n = compression(force);

@@ -8,6 +8,7 @@ use lib.Dec.{eqb}
 use lib.ListN.{take, drop, getD}
 use lib.Seq.{getD-take, getD-drop}
 use borrow.Author.Tests.{eqb-true, eq-eqb, ne-eqb, lt-ltb}
+use Rattle.reading.specs.Records.{zeroForce}
 use Rattle.reading.specs.Spelling.{spelled, same, value, written, minusOf}
 use Rattle.reading.specs.declared.cursor.Field.the-variants.{Number, Unwritten}
 use Rattle.reading.specs.Field.{fieldStep}
@@ -30,7 +31,7 @@ module _ (t : List ℕ) (n next : ℕ) (f : n ≡ value 0 t) where
   unfolding minusOf
   minus-zero z = let e : value 0 t ≡ 0 = sym f ∙ z in rw e (simp and-false)
 
-  pub minus-number : written 45 t ≡ true → (n ≡ 0 → ⊥) → Number (1_000_000 - n) (record { at = next }) ≡ fieldStep (minusOf t) next
+  pub minus-number : written 45 t ≡ true → (n ≡ 0 → ⊥) → Number (zeroForce - n) (record { at = next }) ≡ fieldStep (minusOf t) next
   unfolding minusOf
   minus-number w z = rw (w, lt-ltb 0 (value 0 t) (omega (arith, z)), f)
 

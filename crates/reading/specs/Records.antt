@@ -24,9 +24,10 @@ allows (either a b) v = eqb v a || eqb v b
 abbrev pub never : Allowed
 never = between 1 0
 
--- N_D and N_K are held as numbers counted from -1,000,000: each force has one number, and the order is that of the forces
+-- N_D and N_K are held as numbers counted from -20,000,000: each force has one number, the order is that of the forces, and a force handed in as it is
+-- stands outside the range
 abbrev pub zeroForce : ℕ
-zeroForce = 1_000_000
+zeroForce = 20_000_000
 
 -- "B": k, H_T, n_s, two tilts, number of S lines, which is at most n_s
 abbrev pub headerRanges : ℕ → List Allowed

@@ -29,8 +29,8 @@ pub record Valid (m : Member) : Type 0 where
   pub strengthened : m .strengthened ≤ 1
   pub factor : m .factor ≤ 100
   pub damage : m .damage ≤ 4
-  pub nd : m .nd ≤ 10_999_999
-  pub nk : m .case .nk ≤ 10_999_999
+  pub nd : m .nd ≤ 29_999_999
+  pub nk : m .case .nk ≤ 29_999_999
   pub me : m .case .me ≤ 9_999_999
   pub mp : m .case .mp ≤ 9_999_999
   pub mp-least : 1 ≤ m .case .mp

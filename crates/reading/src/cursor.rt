@@ -5,6 +5,7 @@ ghost use Prim.Native.Nat.{_+_, _≤_};
 ghost use lib.ListN.{length, take, drop};
 ghost use Rattle.reading.specs.Spelling.{value, written, minusOf, fieldOf};
 ghost use Rattle.reading.specs.Field.{fieldStep, numberOf, nextOf};
+use crate::records::ZERO_FORCE;
 use crate::spelling::digits;
 use crate::spelling::goes_on;
 use crate::spelling::push;
@@ -52,7 +53,7 @@ fn plain_at(s: &[u8], at: usize) -> Field
     Field::Number(v, Cursor { at: at + 8 })
 }
 
-// A field with a minus, counted from -1,000,000.
+// A field with a minus, counted from -20,000,000.
 fn minus_at(s: &[u8], at: usize) -> Field
     requires { ⌜ at + 8 ≤ length (now s) ⌝ }
     ensures { λ r. ⌜ r ≡ fieldStep (minusOf (take 8 (drop at (now (s .entry))))) (at + 8) ⌝ }
@@ -62,19 +63,19 @@ fn minus_at(s: &[u8], at: usize) -> Field
         return Field::Unwritten(Cursor { at: at + 8 });
     }
     if is_written(s, at, b'-', n) {
-        return Field::Number(1000000 - n, Cursor { at: at + 8 });
+        return Field::Number(ZERO_FORCE - n, Cursor { at: at + 8 });
     }
     Field::Unwritten(Cursor { at: at + 8 })
 }
 
-// N_D or N_K, counted from -1,000,000.
+// N_D or N_K, counted from -20,000,000.
 fn force_at(s: &[u8], at: usize) -> Field
     requires { ⌜ at + 8 ≤ length (now s) ⌝ }
     ensures { λ r. ⌜ r ≡ fieldStep (fieldOf true (take 8 (drop at (now (s .entry))))) (at + 8) ⌝ }
 {
     let f = plain_at(s, at);
     match f {
-        Field::Number(n, _) => Field::Number(1000000 + n, Cursor { at: at + 8 }),
+        Field::Number(n, _) => Field::Number(ZERO_FORCE + n, Cursor { at: at + 8 }),
         Field::Unwritten(_) => minus_at(s, at),
     }
 }

@@ -1,5 +1,8 @@
 // The records of a survey, shared by every layer. Every field is a number, in the unit that document 01 gives it.
 
+// What stands for a force of 0 in N_D and N_K.
+pub const ZERO_FORCE: u64 = 20_000_000;
+
 // The B line.
 #[repr(C)]
 pub struct Header {
@@ -57,7 +60,7 @@ pub struct Member {
     pub factor: u64,
     // worst damage kind, 0 to 4
     pub damage: u64,
-    // N_D, counted from -1,000,000
+    // N_D, counted from -20,000,000
     pub nd: u64,
     pub case: LoadCase,
 }
@@ -65,7 +68,7 @@ pub struct Member {
 // What one load case brings to a member.
 #[repr(C)]
 pub struct LoadCase {
-    // N_K, counted from -1,000,000
+    // N_K, counted from -20,000,000
     pub nk: u64,
     // M_e and M_p, moment demand and capacity
     pub me: u64,

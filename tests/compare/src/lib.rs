@@ -7,7 +7,7 @@ pub use llunareth::{Member as MemberRow, Storey as StoreyRow};
 
 const ZERO_FORCE: i128 = llunareth::ZERO_FORCE as i128;
 
-/// The stored numbers of a member; `None` where a force has none (below -1,000,000 or above what 64 bits hold).
+/// The stored numbers of a member; `None` where a force has none (below -20,000,000 or above what 64 bits hold).
 pub fn member_numbers(m: &Member) -> Option<[u64; 26]> {
     let fields = m.fields();
     let mut numbers = [0; 26];

@@ -120,6 +120,19 @@ fn a_short_buffer_is_left_alone_and_a_long_one_past_ten() {
     }
 }
 
+/// Each force that N_D and N_K may be, handed in without the offset, is refused.
+#[test]
+fn a_force_handed_in_as_it_is_is_refused() {
+    let good = member_numbers(&small().members[0]).unwrap();
+    for j in [17, 18] {
+        for force in [0, 1, 3_150, 999_999, 1_000_000, 9_999_999] {
+            let mut numbers = good;
+            numbers[j] = force;
+            assert_eq!(member_fault(&numbers), Err(Refusal::of_record(3)), "field {} = {force}", j + 1);
+        }
+    }
+}
+
 #[test]
 fn every_fields_range_from_a_record() {
     let s = small();
@@ -154,7 +167,7 @@ fn every_fields_range_from_a_record() {
 
 /// At and beside the ends of every range.
 fn edges() -> Vec<u64> {
-    let ends = [0, 1, 4, 10, 90, 99, 100, 200, 9_999, 30_000, 99_999, 1_000_000, 9_999_999, 10_999_999, u64::MAX];
+    let ends = [0, 1, 4, 10, 90, 99, 100, 200, 9_999, 30_000, 99_999, 1_000_000, 9_999_999, 19_000_001, 20_000_000, 29_999_999, u64::MAX];
     ends.iter().flat_map(|&e: &u64| [e.saturating_sub(1), e, e.saturating_add(1)]).collect()
 }
 
