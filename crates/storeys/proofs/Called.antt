@@ -56,8 +56,8 @@ module _ (rows : List Member) (g : Rows rows) where
       (record {
         shear = shear-most s e;
         rows-most = g .most;
-        axial = omega (arith, g .most, total-most (λ m. axialRatioD m .0) noMember 999_999 rows (λ j l. nd-most (memberIn rows j)));
-        over =
+        axial-total = omega (arith, g .most, total-most (λ m. axialRatioD m .0) noMember 999_999 rows (λ j l. nd-most (memberIn rows j)));
+        over-shear =
             omega (arith, g .most, total-most (shearIfOver publishedRules k met) noMember 9_999_999 rows (λ j l. pick-most (over publishedRules k met (memberIn rows j)) (memberIn rows j .case .shear) 9_999_999 (row-valid rows g j l .shear)));
       })
 

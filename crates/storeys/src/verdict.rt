@@ -29,9 +29,9 @@ pub(crate) fn no_verdict() -> Verdict
 
 // 10 where P is above its bound.
 fn shear_fault(f: StoreyFinding) -> u64
-    ensures { λ r. ⌜ r ≡ shearFault (f .over) ⌝ }
+    ensures { λ r. ⌜ r ≡ shearFault (f .«over_shear») ⌝ }
 {
-    if 9_999_999_999 < f.over {
+    if 9_999_999_999 < f.over_shear {
         return 10;
     }
     0
