@@ -15,6 +15,7 @@ use Rattle.reading.specs.declared.records.Member.{Member}
 use Rattle.reading.proofs.Below.{any-none, any-more, any-holds}
 use Rattle.reading.proofs.Firsts.{first-none, first-next, first-kept, first-clear, pick-clear}
 use Rattle.reading.proofs.Validity.{valid}
+use Rattle.members.specs.Units.{ratioCap}
 use Rattle.members.specs.Class.{isWall}
 use Rattle.members.specs.Finding.{axialRatioD, knowledge, flag}
 use Rattle.reading.specs.Totals.{total, some}
@@ -114,7 +115,7 @@ pub record Going (k : ℕ) (met : Bool) (rows : List Member) (t : Tally) (j : �
   pub shears : t .«over_shear» + overShear publishedRules k met (drop j rows) ≡ overShear publishedRules k met rows
   pub anyone : (t .some || someOver publishedRules k met (drop j rows)) ≡ someOver publishedRules k met rows
   pub damage : t .damage + weighed j rows ≡ weighed 0 rows
-  pub axial-most : t .«axial_total» ≤ 999_999 * j
+  pub axial-most : t .«axial_total» ≤ ratioCap * j
   pub over-most : t .«over_shear» ≤ 9_999_999 * j
   pub damage-most : t .damage ≤ 140 * j
 

@@ -14,6 +14,7 @@ use Rattle.storeys.specs.Tally.{weightOf, riskyBy, added, addedBy, AddsU
 use Rattle.reading.specs.Records.{memberFault}
 use Rattle.reading.specs.declared.records.Member.{Member}
 use Rattle.reading.proofs.Validity.{valid}
+use Rattle.members.specs.Units.{ratioCap}
 use Rattle.members.specs.declared.finding.Finding.{Finding}
 use Rattle.members.specs.declared.finding.MemberAnswer.{MemberAnswer}
 use Rattle.members.specs.declared.finding.MemberAnswer.the-variants.{Judged, Refused}
@@ -80,7 +81,7 @@ module _ (k : ℕ) (met : Bool) (m : Member) (h : knowledge k ≡ true) (g : mem
   pub not-refused : (r : MemberAnswer) (n : ℕ) → r ≡ memberAnswer k met m → r ≡ Refused n → ⊥
   not-refused r n p q = let e = judged-good in let z : _≡_ {A = ℕ} 0 1 = cc in omega arith
 
-pub nd-most : (m : Member) → axialRatioD m .0 ≤ 999_999
+pub nd-most : (m : Member) → axialRatioD m .0 ≤ ratioCap
 unfolding axial
 nd-most m = omega arith
 

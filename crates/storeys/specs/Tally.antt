@@ -9,6 +9,7 @@ use Rattle.reading.specs.First.{pick, inOrder}
 use Rattle.reading.specs.Records.{storeyFault, memberFault}
 use Rattle.reading.specs.declared.records.Storey.{Storey}
 use Rattle.reading.specs.declared.records.Member.{Member}
+use Rattle.members.specs.Units.{ratioCap}
 use Rattle.members.specs.Finding.{axialRatioD, flag, knowledge}
 use Rattle.storeys.specs.declared.StoreyAnswer.{StoreyAnswer}
 use Rattle.storeys.specs.declared.StoreyAnswer.the-variants.{Judged, Refused}
@@ -51,7 +52,7 @@ pub record AddsNumbers (t : Tally) (nd : ℕ) (m : Member) : Type 0 where
   pub axial-total : t .«axial_total» ≤ 1_000_000_000
   pub over-shear : t .«over_shear» ≤ 10_000_000_000
   pub damage : t .damage ≤ 1_000_000
-  pub ratio : nd ≤ 999_999
+  pub ratio : nd ≤ ratioCap
   pub shear : m .case .shear ≤ 9_999_999
   pub kind : m .damage ≤ 4
 

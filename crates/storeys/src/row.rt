@@ -22,6 +22,9 @@ use reading::ranges::storey_fault;
 use reading::records::Member;
 use reading::records::Storey;
 
+// The largest P that is judged; a larger one is refused by 10.
+pub(crate) const OVER_SHEAR_MOST: u64 = 9_999_999_999;
+
 // The totals over some members of a storey.
 pub(crate) struct Tally {
     // Σ
@@ -227,7 +230,7 @@ pub(crate) fn refused_storey(number: u64) -> StoreyJudgment
 pub(crate) fn judged_storey(f: StoreyFinding) -> StoreyJudgment
     ensures { λ r. ⌜ r .answer ≡ judgedBy f ⌝ }
 {
-    if 9_999_999_999 < f.over_shear {
+    if OVER_SHEAR_MOST < f.over_shear {
         return refused_storey(10);
     }
     StoreyJudgment {

@@ -10,12 +10,13 @@ use crate::BuildingAnswer;
 use crate::BuildingFinding;
 use crate::BuildingJudgment;
 use crate::StoreyFinding;
+use crate::row::OVER_SHEAR_MOST;
 use reading::ranges::header_fault;
 use reading::records::Header;
 
 // What is found of some storeys, from the first on.
 pub(crate) struct Verdict {
-    // 10 where P of one of them is above its bound, else 0
+    // 10 where P of one of them is above `OVER_SHEAR_MOST`, else 0
     pub fault: u64,
     // the place of the first Risky one, counted from 1; 0 where none is
     pub place: u64,
@@ -27,11 +28,11 @@ pub(crate) fn no_verdict() -> Verdict
     Verdict { fault: 0, place: 0 }
 }
 
-// 10 where P is above its bound.
+// 10 where P is above `OVER_SHEAR_MOST`.
 fn shear_fault(f: StoreyFinding) -> u64
     ensures { λ r. ⌜ r ≡ shearFault (f .«over_shear») ⌝ }
 {
-    if 9_999_999_999 < f.over_shear {
+    if OVER_SHEAR_MOST < f.over_shear {
         return 10;
     }
     0
