@@ -25,7 +25,7 @@ use reading::records::Header;
 use reading::records::Member;
 use reading::records::Storey;
 
-// The storeys count as many members as there are rows. No sum is made: what is left of the rows is.
+// Whether the counts of the storeys add up to `rows`. Each count is taken from the rows still left, so that nothing can overflow.
 fn counts_fit(storeys: &[Storey], rows: usize) -> bool
     ensures { λ r. ⌜ r ≡ eqb (total (λ s. s .count) (now (storeys .entry))) rows ⌝ }
 {
