@@ -1,7 +1,7 @@
 // The parts of the call on a building that look into records: the header, and each storey's finding.
 ghost use mathlib.Core.Path.{_≡_};
 ghost use mathlib.Core.Bool.{_||_};
-ghost use lib.Dec.{eqb, ltb};
+ghost use lib.Dec.{ltb};
 ghost use Rattle.reading.specs.First.{pick};
 ghost use Rattle.storeys.specs.Storey.{shearFault};
 ghost use Rattle.storeys.specs.Building.{tilted};
@@ -11,6 +11,7 @@ use crate::BuildingFinding;
 use crate::BuildingJudgment;
 use crate::StoreyFinding;
 use crate::row::OVER_SHEAR_MOST;
+use reading::lines::earlier;
 use reading::ranges::header_fault;
 use reading::records::Header;
 
@@ -48,23 +49,13 @@ fn place_if_risky(f: StoreyFinding, place: usize) -> u64
     0
 }
 
-// `a`, and where that is 0, `b`.
-fn first_of(a: u64, b: u64) -> u64
-    ensures { λ r. ⌜ r ≡ pick (eqb a 0) b a ⌝ }
-{
-    if a == 0 {
-        return b;
-    }
-    a
-}
-
 // With one storey more, at its place.
 pub(crate) fn noted(v: Verdict, place: usize, f: StoreyFinding) -> Verdict
     ensures { λ r. ⌜ r ≡ notedBy v place f ⌝ }
 {
     Verdict {
-        fault: first_of(v.fault, shear_fault(f)),
-        place: first_of(v.place, place_if_risky(f, place)),
+        fault: earlier(v.fault, shear_fault(f)),
+        place: earlier(v.place, place_if_risky(f, place)),
     }
 }
 
