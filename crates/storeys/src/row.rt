@@ -49,12 +49,6 @@ pub(crate) fn storey_number(s: Storey) -> u64
     s.number
 }
 
-pub fn storey_count(s: Storey) -> usize
-    ensures { λ r. ⌜ r ≡ s .count ⌝ }
-{
-    s.count as usize
-}
-
 // A member's 3 and 4, then the 5 that is handed in.
 pub(crate) fn row_fault(m: Member, repeated: u64) -> u64
     ensures { λ r. ⌜ r ≡ inOrder (memberFault m ∷ repeated ∷ []) ⌝ }
