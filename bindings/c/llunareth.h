@@ -128,12 +128,12 @@ enum {
 
 /* Places in the answer of llunareth_judge_storey. */
 enum {
-    LLUNARETH_STOREY_AXIAL = 2,   /* total of n_D */
-    LLUNARETH_STOREY_MEMBERS = 3, /* c */
-    LLUNARETH_STOREY_OVER = 4,    /* P, total of V over the members that are over */
-    LLUNARETH_STOREY_SHEAR = 5,   /* W, the storey shear */
-    LLUNARETH_STOREY_RISKY = 6,   /* 0 or 1 */
-    LLUNARETH_STOREY_WALLS = 7    /* 1 where the walls carry 0.40 of the storey shear or more, else 0 */
+    LLUNARETH_STOREY_AXIAL_TOTAL = 2,  /* total of n_D */
+    LLUNARETH_STOREY_MEMBERS = 3,      /* c */
+    LLUNARETH_STOREY_OVER_SHEAR = 4,   /* P, total of V over the members that are over */
+    LLUNARETH_STOREY_SHEAR = 5,        /* W, the storey shear */
+    LLUNARETH_STOREY_RISKY = 6,        /* 0 or 1 */
+    LLUNARETH_STOREY_WALLS_SUFFICE = 7 /* 1 where the walls carry 0.40 of the storey shear or more, else 0 */
 };
 
 /* Places in the answer of llunareth_judge_building. */

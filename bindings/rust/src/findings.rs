@@ -38,16 +38,16 @@ pub struct MemberFinding {
 #[derive(Clone, Copy, Debug, PartialEq, Eq, Hash)]
 pub struct StoreyFinding {
     /// Σ, the total of n_D, ten-thousandths.
-    pub axial: u64,
+    pub axial_total: u64,
     /// c.
     pub members: u64,
     /// P, the total of V over the members that are over.
-    pub over: u64,
+    pub over_shear: u64,
     /// W, the storey shear.
     pub shear: u64,
     pub risky: bool,
     /// Whether the walls carry 0.40 of the storey shear or more.
-    pub walls: bool,
+    pub walls_suffice: bool,
 }
 
 /// What is found of a building.

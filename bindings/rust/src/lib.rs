@@ -90,7 +90,7 @@ pub fn member_fault(member: &Member) -> Result<(), Refusal> {
     checked(raw::member_fault(&<[u64; 26]>::from(*member)))
 }
 
-/// Judges a member with k and whether its storey meets the 0.40 condition ([`StoreyFinding::walls`]). Refused by 3, k's first, or 4.
+/// Judges a member with k and whether its storey meets the 0.40 condition ([`StoreyFinding::walls_suffice`]). Refused by 3, k's first, or 4.
 ///
 /// ```
 /// use llunareth::{judge_member, Member, ZERO_FORCE};
@@ -117,15 +117,16 @@ pub fn judge_member(k: u64, met: bool, member: &Member) -> Result<MemberFinding,
 /// # let (mut storeys, mut members) = ([llunareth::Storey::default(); 10], [llunareth::Member::default(); 320]);
 /// let survey = llunareth::read(&file, &mut storeys, &mut members)?;
 /// let found = llunareth::judge_storey(survey.header.knowledge, &survey.storeys[0], survey.members)?;
-/// assert_eq!((found.axial, found.members, found.over, found.shear), (7_500, 2, 200, 1_000));
-/// assert!(found.risky && !found.walls);
+/// assert_eq!((found.axial_total, found.members, found.over_shear, found.shear), (7_500, 2, 200, 1_000));
+/// assert!(found.risky && !found.walls_suffice);
 /// let refusal = llunareth::judge_storey(100, &survey.storeys[0], &survey.members[..1]).unwrap_err();
 /// assert_eq!(refusal.number, 1);
 /// # Ok::<(), Box<dyn std::error::Error>>(())
 /// ```
 pub fn judge_storey(k: u64, storey: &Storey, members: &[Member]) -> Result<StoreyFinding, Refusal> {
-    let [axial, count, over, shear, risky, walls, ..] = values(|out| raw::judge_storey(k, &<[u64; 3]>::from(*storey), members, out))?;
-    Ok(StoreyFinding { axial, members: count, over, shear, risky: risky == 1, walls: walls == 1 })
+    let [axial_total, count, over_shear, shear, risky, walls_suffice, ..] =
+        values(|out| raw::judge_storey(k, &<[u64; 3]>::from(*storey), members, out))?;
+    Ok(StoreyFinding { axial_total, members: count, over_shear, shear, risky: risky == 1, walls_suffice: walls_suffice == 1 })
 }
 
 /// Judges a building, given by its header, its storeys, and the members of all of them in survey order. Refused by 1 where a count is not that

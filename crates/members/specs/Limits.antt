@@ -1,4 +1,4 @@
--- The limits of a class at n, v and ρ (document 01, "Limits"): "linear between rows and constant outside", as an exact fraction.
+-- The limits of a class at n, v and ρ (document 01, "Member"): "linear between rows and constant outside", as an exact fraction.
 use Prim.Native.Nat.{ℕ, _+_, _-_, _*_, min, max}
 use mathlib.Core.List.{List, [], _∷_}
 use lib.Dec.{leb, eqb}

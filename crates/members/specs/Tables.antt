@@ -1,4 +1,4 @@
--- The tables of document 01, "Limits", and what makes a table good whatever its figures.
+-- The tables of limits (document 01, "Member"), and what makes a table good whatever its figures.
 use Prim.Native.Nat.{ℕ}
 use mathlib.Core.Bool.{Bool, true, _&&_}
 use mathlib.Core.List.{List, [], _∷_, _++_}

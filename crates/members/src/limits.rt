@@ -1,4 +1,4 @@
-// The limits of a class (document 01, "Limits"): linear between rows and constant outside, exact until the one rounding at the end.
+// The limits of a class (document 01, "Member"): linear between rows and constant outside, exact until the one rounding at the end.
 ghost use mathlib.Core.Path.{_≡_};
 ghost use mathlib.Core.List.{[], _∷_};
 ghost use Prim.Native.Nat.{_≤_, _<_};

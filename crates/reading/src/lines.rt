@@ -119,7 +119,7 @@ fn range_fault(tag: Tag, j: usize, v: u64, storeys: u64) -> u64
 }
 
 // The first of two refusals.
-pub(crate) fn earlier(a: u64, b: u64) -> u64
+pub fn earlier(a: u64, b: u64) -> u64
     ensures { λ r. ⌜ r ≡ pick (eqb a 0) b a ⌝ }
 {
     if a == 0 {

@@ -333,7 +333,7 @@ pub(crate) fn member_at(s: &[u8], i: usize, m: usize) -> Member
     member_of(vs)
 }
 
-pub(crate) fn count_of(r: Storey) -> usize
+pub fn count_of(r: Storey) -> usize
     ensures { λ n. ⌜ n ≡ r .count ⌝ }
 {
     r.count as usize

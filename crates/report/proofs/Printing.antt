@@ -24,7 +24,7 @@ member-line-is number c o f e g = rw (e, g)
 pub member-line-of : (out bytes : List ℕ) (at number : ℕ) (f g : Finding) → out ≡ stamped bytes at (memberLine number f) → f ≡ g → out ≡ stamped bytes at (memberLine number g)
 member-line-of out bytes at number f g e q = rw (← q) e
 
-pub storey-line-is : (number r : ℕ) (f : StoreyFinding) → r ≡ flag (f .risky) → line (83 ∷ []) (number ∷ f .axial ∷ f .members ∷ f .over ∷ f .shear ∷ r ∷ []) ≡ storeyLine number f
+pub storey-line-is : (number r : ℕ) (f : StoreyFinding) → r ≡ flag (f .risky) → line (83 ∷ []) (number ∷ f .«axial_total» ∷ f .members ∷ f .«over_shear» ∷ f .shear ∷ r ∷ []) ≡ storeyLine number f
 unfolding storeyLine
 storey-line-is number r f e = rw e
 

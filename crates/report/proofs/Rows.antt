@@ -87,7 +87,7 @@ module _ (k : ℕ) (s : Storey) (rows : List Member) (none : storeyCallFault pub
   unfolding storeyAnswerBy
   storey-found a f e q = q ∙ rw (e, eq-eqb _ _ none)
 
-  pub storey-done : (bytes filled ended : List ℕ) (at p : ℕ) (met : Bool) (f : StoreyFinding) → f ≡ storeyFinding publishedRules k (s .shear) rows → met ≡ f .walls → filled ≡ stamped bytes at (memberLines k met rows) → p ≡ at + 86 * length rows → ended ≡ stamped filled p (storeyLine (s .number) f) → ended ≡ stamped bytes at (storeyLines k s rows)
+  pub storey-done : (bytes filled ended : List ℕ) (at p : ℕ) (met : Bool) (f : StoreyFinding) → f ≡ storeyFinding publishedRules k (s .shear) rows → met ≡ f .«walls_suffice» → filled ≡ stamped bytes at (memberLines k met rows) → p ≡ at + 86 * length rows → ended ≡ stamped filled p (storeyLine (s .number) f) → ended ≡ stamped bytes at (storeyLines k s rows)
   unfolding storeyLines storeyFinding
   storey-done bytes filled ended at p met f e w a n b =
       b

@@ -39,7 +39,7 @@ memberColumns number f =
 
 -- "number, Σ, c, P, W, Risky"
 abbrev pub storeyColumns : ℕ → StoreyFinding → List ℕ
-storeyColumns number f = number ∷ f .axial ∷ f .members ∷ f .over ∷ f .shear ∷ flag (f .risky) ∷ []
+storeyColumns number f = number ∷ f .«axial_total» ∷ f .members ∷ f .«over_shear» ∷ f .shear ∷ flag (f .risky) ∷ []
 
 -- "tilt above 25,000, Risky"
 abbrev pub buildingColumns : Bool → Bool → List ℕ
@@ -115,7 +115,7 @@ pub record Printed (k : ℕ) (m : Member) : Type 0 where
 
 -- the finding in an answer on a storey; a refusal has none
 abbrev pub noFinding : StoreyFinding
-noFinding = record { axial = 0; members = 0; over = 0; shear = 0; risky = false; walls = false }
+noFinding = record { «axial_total» = 0; members = 0; «over_shear» = 0; shear = 0; risky = false; «walls_suffice» = false }
 
 abbrev pub findingIn : StoreyAnswer → StoreyFinding
 findingIn (storey-answer.Judged f) = f

@@ -57,21 +57,21 @@ pub(crate) fn finding_in(r: StoreyJudgment) -> StoreyFinding
     match answer {
         StoreyAnswer::Judged(f) => f,
         StoreyAnswer::Refused(_) => StoreyFinding {
-            axial: 0,
+            axial_total: 0,
             members: 0,
-            over: 0,
+            over_shear: 0,
             shear: 0,
             risky: false,
-            walls: false,
+            walls_suffice: false,
         },
     }
 }
 
 // The 0.40 condition of a storey.
 pub(crate) fn walls_of(f: StoreyFinding) -> bool
-    ensures { λ r. ⌜ r ≡ f .walls ⌝ }
+    ensures { λ r. ⌜ r ≡ f .«walls_suffice» ⌝ }
 {
-    f.walls
+    f.walls_suffice
 }
 
 pub(crate) fn put_storey(out: &mut [u8], at: usize, s: Storey, f: StoreyFinding) -> usize
@@ -79,7 +79,14 @@ pub(crate) fn put_storey(out: &mut [u8], at: usize, s: Storey, f: StoreyFinding)
     ensures { λ r. ⌜ r ≡ at + 74 ⌝ }
     ensures { λ _. ⌜ now (out .exit) ≡ stamped (now (out .entry)) at (storeyLine (s .number) f) ⌝ }
 {
-    let values = [s.number, f.axial, f.members, f.over, f.shear, flag(f.risky)];
+    let values = [
+        s.number,
+        f.axial_total,
+        f.members,
+        f.over_shear,
+        f.shear,
+        flag(f.risky),
+    ];
     put_line(out, at, b"S", &values)
 }
 

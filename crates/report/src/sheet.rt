@@ -20,8 +20,8 @@ use crate::printed::written_report;
 use reading::records::Header;
 use reading::records::Member;
 use reading::records::Storey;
+use reading::survey::count_of;
 use storeys::building::judge_building;
-use storeys::row::storey_count;
 use storeys::storey::judge_storey;
 use storeys::verdict::level_of;
 
@@ -63,7 +63,7 @@ fn put_storeys(out: &mut [u8], h: Header, storeys: &[Storey], members: &[Member]
     let mut i = 0;
     while i < storeys.len() {
         let s = storeys[i];
-        let b = a + storey_count(s);
+        let b = a + count_of(s);
         p = put_storey_lines(out, p, k, s, &members[a..b]);
         a = b;
         i = i + 1;

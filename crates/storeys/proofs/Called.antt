@@ -16,6 +16,7 @@ use Rattle.reading.proofs.Below.{and-right, every-at}
 use Rattle.reading.proofs.Firsts.{in-order-last, pick-zero, pick-other, pick-clear, pick-both}
 use Rattle.reading.proofs.Files.{count-most}
 use Rattle.reading.proofs.Validity.{clear}
+use Rattle.members.specs.Units.{ratioCap}
 use Rattle.members.specs.Finding.{axialRatioD, knowledge, refused}
 use Rattle.members.specs.Class.{isWall}
 use Rattle.storeys.specs.declared.StoreyFinding.{StoreyFinding}
@@ -56,8 +57,8 @@ module _ (rows : List Member) (g : Rows rows) where
       (record {
         shear = shear-most s e;
         rows-most = g .most;
-        axial = omega (arith, g .most, total-most (λ m. axialRatioD m .0) noMember 999_999 rows (λ j l. nd-most (memberIn rows j)));
-        over =
+        axial-total = omega (arith, g .most, total-most (λ m. axialRatioD m .0) noMember ratioCap rows (λ j l. nd-most (memberIn rows j)));
+        over-shear =
             omega (arith, g .most, total-most (shearIfOver publishedRules k met) noMember 9_999_999 rows (λ j l. pick-most (over publishedRules k met (memberIn rows j)) (memberIn rows j .case .shear) 9_999_999 (row-valid rows g j l .shear)));
       })
 

@@ -17,14 +17,14 @@ use Rattle.reading.specs.Totals.{some}
 use Rattle.storeys.specs.Storey.{Rules, publishedRules, orderly, meetsWallShare, over, storeyRisky, storeyAnswerBy}
 use Rattle.storeys.specs.Building.{riskyAt, someRisky, buildingRisky, tiltAllowed, tilted}
 use Rattle.storeys.specs.Pairing.{EveryPair}
-use Rattle.storeys.specs.Demand3.{Survey, knowledgeOf, StoreyMembers, storeyMembersAt, storeysMembers, Accepted, overIn, riskyIn, Over, Risky, MemberPairs, StoreyPairs, Severer, SevererStorey, NowhereBetter, Carried, Demand3}
+use Rattle.storeys.specs.Demand3.{Survey, knowledgeOf, StoreyMembers, storeyMembersAt, storeysMembers, Accepted, overIn, riskyIn, Over, Risky, MemberPairs, StoreyPairs, AtLeastAsSevere, AtLeastAsSevereStorey, NowhereBetter, Carried, Demand3}
 use Rattle.storeys.proofs.Tests.{or-carried, excess-carried, at-equals}
 use Rattle.storeys.proofs.Pairs.{each, both, of-all, some-carried}
 use Rattle.storeys.proofs.Storeys.{Orderly, rules-ordered, Known, overs-carried, risky-carried}
 use Rattle.storeys.proofs.Accepted.{Sound, level-positive, has-members, good-members, risky-found, over-found, verdict-found, level-known, sound-storeys}
 
 -- two storeys that are partners, judged with the levels j and k
-module _ (rules : Rules) (good : Orderly rules) (j k : ℕ) (same : j ≡ k) (pos : 0 < j) (f g : StoreyMembers) (ms : MemberPairs (f .members) (g .members)) (sf : Sound rules j f) (sg : Sound rules k g) (worse : SevererStorey j f g ms) where
+module _ (rules : Rules) (good : Orderly rules) (j k : ℕ) (same : j ≡ k) (pos : 0 < j) (f g : StoreyMembers) (ms : MemberPairs (f .members) (g .members)) (sf : Sound rules j f) (sg : Sound rules k g) (worse : AtLeastAsSevereStorey j f g ms) where
   shear-same : f .storey .shear ≡ g .storey .shear
   shear-same = omega (arith, worse .shear)
 
@@ -33,8 +33,8 @@ module _ (rules : Rules) (good : Orderly rules) (j k : ℕ) (same : j ≡ k) (po
 
   known : EveryPair (Known j) ms
   known =
-      each (λ m n u. ((memberFault m ≡ 0) × (memberFault n ≡ 0)) × Severer j m n) (Known j) (λ m n u h. ((valid m (h .0 .0), valid n (h .0 .1)), h .1)) ms
-      (both (λ m n u. (memberFault m ≡ 0) × (memberFault n ≡ 0)) (λ m n u. Severer j m n) ms faultless (worse .members))
+      each (λ m n u. ((memberFault m ≡ 0) × (memberFault n ≡ 0)) × AtLeastAsSevere j m n) (Known j) (λ m n u h. ((valid m (h .0 .0), valid n (h .0 .1)), h .1)) ms
+      (both (λ m n u. (memberFault m ≡ 0) × (memberFault n ≡ 0)) (λ m n u. AtLeastAsSevere j m n) ms faultless (worse .members))
 
   -- the 0.40 conditions
   abbrev metF : Bool
@@ -96,11 +96,11 @@ module _ (rules : Rules) (good : Orderly rules) (a b : Survey) (r q : BuildingAn
   positive = level-positive (knowledgeOf a) (level-known rules a r ra)
 
   abbrev Facts : (f g : StoreyMembers) → MemberPairs (f .members) (g .members) → Type 0
-  Facts f g ms = (Sound rules (knowledgeOf a) f × Sound rules (knowledgeOf b) g) × SevererStorey (knowledgeOf a) f g ms
+  Facts f g ms = (Sound rules (knowledgeOf a) f × Sound rules (knowledgeOf b) g) × AtLeastAsSevereStorey (knowledgeOf a) f g ms
 
   facts : EveryPair Facts pairs
   facts =
-      both (λ f g ms. Sound rules (knowledgeOf a) f × Sound rules (knowledgeOf b) g) (λ f g ms. SevererStorey (knowledgeOf a) f g ms) pairs
+      both (λ f g ms. Sound rules (knowledgeOf a) f × Sound rules (knowledgeOf b) g) (λ f g ms. AtLeastAsSevereStorey (knowledgeOf a) f g ms) pairs
       (of-all (Sound rules (knowledgeOf a)) (Sound rules (knowledgeOf b)) pairs (sound-storeys rules a r ra) (sound-storeys rules b q rb)) (worse .storeys)
 
   verdicts : EveryPair (λ f g ms. verdict rules (knowledgeOf a) f ≡ true → verdict rules (knowledgeOf b) g ≡ true) pairs

@@ -15,6 +15,7 @@ use Rattle.reading.specs.declared.records.Member.{Member}
 use Rattle.reading.proofs.Below.{any-none, any-more, any-holds}
 use Rattle.reading.proofs.Firsts.{first-none, first-next, first-kept, first-clear, pick-clear}
 use Rattle.reading.proofs.Validity.{valid}
+use Rattle.members.specs.Units.{ratioCap}
 use Rattle.members.specs.Class.{isWall}
 use Rattle.members.specs.Finding.{axialRatioD, knowledge, flag}
 use Rattle.reading.specs.Totals.{total, some}
@@ -110,15 +111,15 @@ abbrev pub weighed : ℕ → List Member → ℕ
 weighed j ms = 20 * damaged 1 (drop j ms) + 28 * damaged 2 (drop j ms) + 35 * damaged 3 (drop j ms) + 140 * damaged 4 (drop j ms)
 
 pub record Going (k : ℕ) (met : Bool) (rows : List Member) (t : Tally) (j : ℕ) : Type 0 where
-  pub axial : t .axial + axialTotal (drop j rows) ≡ axialTotal rows
-  pub shears : t .over + overShear publishedRules k met (drop j rows) ≡ overShear publishedRules k met rows
+  pub axial : t .«axial_total» + axialTotal (drop j rows) ≡ axialTotal rows
+  pub shears : t .«over_shear» + overShear publishedRules k met (drop j rows) ≡ overShear publishedRules k met rows
   pub anyone : (t .some || someOver publishedRules k met (drop j rows)) ≡ someOver publishedRules k met rows
   pub damage : t .damage + weighed j rows ≡ weighed 0 rows
-  pub axial-most : t .axial ≤ 999_999 * j
-  pub over-most : t .over ≤ 9_999_999 * j
+  pub axial-most : t .«axial_total» ≤ ratioCap * j
+  pub over-most : t .«over_shear» ≤ 9_999_999 * j
   pub damage-most : t .damage ≤ 140 * j
 
-tally-is : (t : Tally) (a b d : ℕ) (c : Bool) → t .axial ≡ a → t .over ≡ b → t .some ≡ c → t .damage ≡ d → t ≡ record { axial = a; over = b; some = c; damage = d }
+tally-is : (t : Tally) (a b d : ℕ) (c : Bool) → t .«axial_total» ≡ a → t .«over_shear» ≡ b → t .some ≡ c → t .damage ≡ d → t ≡ record { «axial_total» = a; «over_shear» = b; some = c; damage = d }
 tally-is t a b d c e f g h = rw (← e, ← f, ← g, ← h)
 
 module _ (k : ℕ) (met : Bool) (rows : List Member) where
@@ -140,8 +141,8 @@ module _ (k : ℕ) (met : Bool) (rows : List Member) where
         record {
           knowledge-level = l;
           good = row-good rows g j h;
-          axial = omega (arith, u .axial-most, g .most);
-          over = omega (arith, u .over-most, g .most);
+          axial-total = omega (arith, u .axial-most, g .most);
+          over-shear = omega (arith, u .over-most, g .most);
           damage = omega (arith, u .damage-most, g .most);
         }
 
@@ -153,11 +154,11 @@ module _ (k : ℕ) (met : Bool) (rows : List Member) where
     weight-most (suc (suc (suc (suc zero)))) l = omega arith
     weight-most (suc (suc (suc (suc (suc d))))) l = let z : ⊥ = omega arith in absurd z
 
-    next-axial : (t .axial + axialRatioD (memberIn rows j) .0) + axialTotal (drop (j + 1) rows) ≡ axialTotal rows
+    next-axial : (t .«axial_total» + axialRatioD (memberIn rows j) .0) + axialTotal (drop (j + 1) rows) ≡ axialTotal rows
     unfolding axialTotal
     next-axial = omega (arith, u .axial, total-drop (λ m. axialRatioD m .0) noMember rows j h)
 
-    next-shears : (t .over + shearIfOver publishedRules k met (memberIn rows j)) + overShear publishedRules k met (drop (j + 1) rows) ≡ overShear publishedRules k met rows
+    next-shears : (t .«over_shear» + shearIfOver publishedRules k met (memberIn rows j)) + overShear publishedRules k met (drop (j + 1) rows) ≡ overShear publishedRules k met rows
     unfolding overShear
     next-shears = omega (arith, u .shears, total-drop (shearIfOver publishedRules k met) noMember rows j h)
 
@@ -192,8 +193,8 @@ module _ (k : ℕ) (met : Bool) (rows : List Member) where
   pub going-all : (t : Tally) (j : ℕ) → Going k met rows t j → length rows ≤ j → t ≡ tallyOf k met rows
   unfolding tallyOf axialTotal overShear someOver damaged
   going-all t j u h =
-      let a : t .axial ≡ axialTotal rows = omega (arith, u .axial, total-end (λ m. axialRatioD m .0) noMember rows j h) in
-      let b : t .over ≡ overShear publishedRules k met rows = omega (arith, u .shears, total-end (shearIfOver publishedRules k met) noMember rows j h) in
+      let a : t .«axial_total» ≡ axialTotal rows = omega (arith, u .axial, total-end (λ m. axialRatioD m .0) noMember rows j h) in
+      let b : t .«over_shear» ≡ overShear publishedRules k met rows = omega (arith, u .shears, total-end (shearIfOver publishedRules k met) noMember rows j h) in
       let c : t .some ≡ someOver publishedRules k met rows = sym (or-false (t .some)) ∙ ap (λ (x : Bool). t .some || x) (sym (some-end (over publishedRules k met) rows j h)) ∙ u .anyone in
       let d : t .damage ≡ weighed 0 rows =
       omega (arith, u .damage, total-end (λ m. flag (eqb (m .damage) 1)) noMember rows j h, total-end (λ m. flag (eqb (m .damage) 2)) noMember rows j h, total-end (λ m. flag (eqb (m .damage) 3)) noMember rows j h, total-end (λ m. flag (eqb (m .damage) 4)) noMember rows j h) in

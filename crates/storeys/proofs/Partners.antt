@@ -14,7 +14,7 @@ use Rattle.members.specs.Tables.{orderedSet}
 use Rattle.members.specs.Finding.{axialRatioD, isOver}
 use Rattle.members.proofs.Worse.{Worse, nd-worse, over-stays}
 use Rattle.storeys.specs.Storey.{wallShear}
-use Rattle.storeys.specs.Demand3.{Severer}
+use Rattle.storeys.specs.Demand3.{AtLeastAsSevere}
 
 -- only a column is of class C
 wall-not-c : (t : Bool) → pick t WallA WallB ≡ ColumnC → ⊥
@@ -29,7 +29,7 @@ c-is-column k m e = go (isWall m) e
     go true h = absurd (wall-not-c (leb (2 * m .long) (m .height) && shearBelow k (m .case .ve) (m .case .vr)) h)
     go false h = refl
 
-module _ (k : ℕ) (m n : Member) (s : Severer k m n) where
+module _ (k : ℕ) (m n : Member) (s : AtLeastAsSevere k m n) where
   same-wall : isWall m ≡ isWall n
   same-wall = rw (s .long, s .short)
 

@@ -14,6 +14,7 @@ use Rattle.storeys.specs.Tally.{weightOf, riskyBy, added, addedBy, AddsU
 use Rattle.reading.specs.Records.{memberFault}
 use Rattle.reading.specs.declared.records.Member.{Member}
 use Rattle.reading.proofs.Validity.{valid}
+use Rattle.members.specs.Units.{ratioCap}
 use Rattle.members.specs.declared.finding.Finding.{Finding}
 use Rattle.members.specs.declared.finding.MemberAnswer.{MemberAnswer}
 use Rattle.members.specs.declared.finding.MemberAnswer.the-variants.{Judged, Refused}
@@ -48,10 +49,10 @@ or-some x y z s e f g = rw (e, f, g) (sym (or-false s))
 
 module _ (shear c : ℕ) (t : Tally) where
   abbrev shared : Bool
-  shared = exceedsShare (publishedRules .ends) (t .axial) c (t .over) shear
+  shared = exceedsShare (publishedRules .ends) (t .«axial_total») c (t .«over_shear») shear
 
   abbrev loaded : Bool
-  loaded = ltb (publishedRules .ends .r2 * c) (t .axial)
+  loaded = ltb (publishedRules .ends .r2 * c) (t .«axial_total»)
 
   abbrev hurt : Bool
   hurt = leb (7 * c) (t .damage)
@@ -80,7 +81,7 @@ module _ (k : ℕ) (met : Bool) (m : Member) (h : knowledge k ≡ true) (g : mem
   pub not-refused : (r : MemberAnswer) (n : ℕ) → r ≡ memberAnswer k met m → r ≡ Refused n → ⊥
   not-refused r n p q = let e = judged-good in let z : _≡_ {A = ℕ} 0 1 = cc in omega arith
 
-pub nd-most : (m : Member) → axialRatioD m .0 ≤ 999_999
+pub nd-most : (m : Member) → axialRatioD m .0 ≤ ratioCap
 unfolding axial
 nd-most m = omega arith
 
@@ -94,10 +95,10 @@ unfolding findingBy
 room-for t k met m f u e =
     let v = valid m (u .good) in
     let q : f .nd .0 ≡ axialRatioD m .0 = ap (λ (x : Finding). x .nd .0) e in
-    record { axial = u .axial; over = u .over; damage = u .damage; ratio = omega (arith, nd-most m, q); shear = v .shear; kind = v .damage }
+    record { axial-total = u .axial-total; over-shear = u .over-shear; damage = u .damage; ratio = omega (arith, nd-most m, q); shear = v .shear; kind = v .damage }
 
-pub added-over : (t : Tally) (o : Bool) (nd w : ℕ) (m : Member) → o ≡ true → w ≡ weightOf (m .damage) → record { axial = t .axial + nd; over = t .over + m .case .shear; some = true; damage = t .damage + w } ≡ addedBy t o nd m
+pub added-over : (t : Tally) (o : Bool) (nd w : ℕ) (m : Member) → o ≡ true → w ≡ weightOf (m .damage) → record { «axial_total» = t .«axial_total» + nd; «over_shear» = t .«over_shear» + m .case .shear; some = true; damage = t .damage + w } ≡ addedBy t o nd m
 added-over t o nd w m e f = rw (e, f, or-true (t .some))
 
-pub added-under : (t : Tally) (o : Bool) (nd w : ℕ) (m : Member) → o ≡ false → w ≡ weightOf (m .damage) → record { axial = t .axial + nd; over = t .over; some = t .some; damage = t .damage + w } ≡ addedBy t o nd m
-added-under t o nd w m e f = let z : t .over + 0 ≡ t .over = omega arith in rw (e, f, or-false (t .some), z)
+pub added-under : (t : Tally) (o : Bool) (nd w : ℕ) (m : Member) → o ≡ false → w ≡ weightOf (m .damage) → record { «axial_total» = t .«axial_total» + nd; «over_shear» = t .«over_shear»; some = t .some; damage = t .damage + w } ≡ addedBy t o nd m
+added-under t o nd w m e f = let z : t .«over_shear» + 0 ≡ t .«over_shear» = omega arith in rw (e, f, or-false (t .some), z)

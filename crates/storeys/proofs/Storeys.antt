@@ -16,7 +16,7 @@ use Rattle.members.specs.Tables.{orderedSet}
 use Rattle.members.specs.Finding.{axialRatioD, findingBy}
 use Rattle.storeys.specs.Storey.{Rules, orderly, wallShear, meetsWallShare, axialTotal, over, shearIfOver, overShear, someOver, storeyRisky}
 use Rattle.storeys.specs.Pairing.{EveryPair}
-use Rattle.storeys.specs.Demand3.{MemberPairs, Severer}
+use Rattle.storeys.specs.Demand3.{MemberPairs, AtLeastAsSevere}
 use Rattle.storeys.proofs.Tests.{never, and-carried, or-carried, excess-carried}
 use Rattle.storeys.proofs.Partners.{wall-shear-same, shear-kept, nd-kept, over-kept}
 use Rattle.storeys.proofs.Pairs.{each, total-le, total-equal, length-equal, some-carried}
@@ -42,7 +42,7 @@ counted false b x y f h = omega arith
 
 -- what is known of a pair of members: they are good records, and the second is nowhere better
 abbrev pub Known : ℕ → Member → Member → Unit {0} → Type 0
-Known k m n u = (Valid m × Valid n) × Severer k m n
+Known k m n u = (Valid m × Valid n) × AtLeastAsSevere k m n
 
 -- two storeys with the shear w, whose members are paired off by p
 module _ (rules : Rules) (good : Orderly rules) (k w : ℕ) (pos : 0 < k) {ms ns : List Member} (p : MemberPairs ms ns) where

@@ -81,7 +81,7 @@ abbrev pub StoreyPairs : Survey → Survey → Type 0
 StoreyPairs a b = Pairing (λ f g. MemberPairs (f .members) (g .members)) (storeysMembers a) (storeysMembers b)
 
 -- NOWHERE BETTER, of two partners m and n, judged with the level k
-pub record Severer (k : ℕ) (m n : Member) : Type 0 where
+pub record AtLeastAsSevere (k : ℕ) (m n : Member) : Type 0 where
   -- "equal sections, hoop spacings": fields 2 to 4 and 8 to 11
   pub long : m .long ≡ n .long
   pub short : m .short ≡ n .short
@@ -121,10 +121,10 @@ pub record Severer (k : ℕ) (m n : Member) : Type 0 where
   pub strengthened-c : isWall n ≡ false → n .strengthened ≡ 1 → classOf k n ≡ ColumnC → classOf k m ≡ ColumnC
 
 -- of two storeys that are partners, and their members' pairs
-pub record SevererStorey (k : ℕ) (f g : StoreyMembers) (ms : MemberPairs (f .members) (g .members)) : Type 0 where
+pub record AtLeastAsSevereStorey (k : ℕ) (f g : StoreyMembers) (ms : MemberPairs (f .members) (g .members)) : Type 0 where
   -- "equal .. storey shears"
   pub shear : f .storey .shear ≡ g .storey .shear
-  pub members : EveryPair (λ m n u. Severer k m n) ms
+  pub members : EveryPair (λ m n u. AtLeastAsSevere k m n) ms
 
 -- of two surveys and their storeys' pairs
 pub record NowhereBetter (a b : Survey) (pairs : StoreyPairs a b) : Type 0 where
@@ -133,7 +133,7 @@ pub record NowhereBetter (a b : Survey) (pairs : StoreyPairs a b) : Type 0 where
   -- "no .. tilt": each against the one in the same field
   pub tilt1 : a .header .tilt1 ≤ b .header .tilt1
   pub tilt2 : a .header .tilt2 ≤ b .header .tilt2
-  pub storeys : EveryPair (λ f g ms. SevererStorey (knowledgeOf a) f g ms) pairs
+  pub storeys : EveryPair (λ f g ms. AtLeastAsSevereStorey (knowledgeOf a) f g ms) pairs
 
 -- CARRIED, over the same pairs: "every member over in the first has a partner over in the second, every storey Risky in the first has a partner Risky in
 -- the second, and where the first building is Risky, so is the second"

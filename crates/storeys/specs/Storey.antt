@@ -89,12 +89,12 @@ storeyRisky rules k w ms =
 unfoldable pub storeyFinding : Rules → ℕ → ℕ → List Member → StoreyFinding
 storeyFinding rules k w ms =
     record {
-      axial = axialTotal ms;
+      «axial_total» = axialTotal ms;
       members = length ms;
-      over = overShear rules k (meetsWallShare w ms) ms;
+      «over_shear» = overShear rules k (meetsWallShare w ms) ms;
       shear = w;
       risky = storeyRisky rules k w ms;
-      walls = meetsWallShare w ms;
+      «walls_suffice» = meetsWallShare w ms;
     }
 
 -- 1, a count that isn't the rows given
@@ -169,7 +169,7 @@ storeyAnswer = storeyAnswerBy publishedRules
 
 -- the values of a printed storey after its number, and the 0.40 condition
 abbrev pub storeyFindingValues : StoreyFinding → List ℕ
-storeyFindingValues f = f .axial ∷ f .members ∷ f .over ∷ f .shear ∷ flag (f .risky) ∷ flag (f .walls) ∷ []
+storeyFindingValues f = f .«axial_total» ∷ f .members ∷ f .«over_shear» ∷ f .shear ∷ flag (f .risky) ∷ flag (f .«walls_suffice») ∷ []
 
 abbrev pub storeyFound : StoreyFinding → Returned
 storeyFound f = record { refusal = 0; line = 0; values = storeyFindingValues f }

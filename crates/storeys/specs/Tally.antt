@@ -9,6 +9,7 @@ use Rattle.reading.specs.First.{pick, inOrder}
 use Rattle.reading.specs.Records.{storeyFault, memberFault}
 use Rattle.reading.specs.declared.records.Storey.{Storey}
 use Rattle.reading.specs.declared.records.Member.{Member}
+use Rattle.members.specs.Units.{ratioCap}
 use Rattle.members.specs.Finding.{axialRatioD, flag, knowledge}
 use Rattle.storeys.specs.declared.StoreyAnswer.{StoreyAnswer}
 use Rattle.storeys.specs.declared.StoreyAnswer.the-variants.{Judged, Refused}
@@ -21,14 +22,14 @@ abbrev pub weightOf : ℕ → ℕ
 weightOf kind = 20 * flag (eqb kind 1) + 28 * flag (eqb kind 2) + 35 * flag (eqb kind 3) + 140 * flag (eqb kind 4)
 
 abbrev pub noTally : Tally
-noTally = record { axial = 0; over = 0; some = false; damage = 0 }
+noTally = record { «axial_total» = 0; «over_shear» = 0; some = false; damage = 0 }
 
 -- the totals with one member more: whether it is over, and its n_D
 abbrev pub addedBy : Tally → Bool → ℕ → Member → Tally
 addedBy t o nd m =
     record {
-      axial = t .axial + nd;
-      over = t .over + pick o (m .case .shear) 0;
+      «axial_total» = t .«axial_total» + nd;
+      «over_shear» = t .«over_shear» + pick o (m .case .shear) 0;
       some = t .some || o;
       damage = t .damage + weightOf (m .damage);
     }
@@ -40,26 +41,26 @@ added t k met m = addedBy t (over publishedRules k met m) (axialRatioD m .0) m
 unfoldable pub tallyOf : ℕ → Bool → List Member → Tally
 tallyOf k met ms =
     record {
-      axial = axialTotal ms;
-      over = overShear publishedRules k met ms;
+      «axial_total» = axialTotal ms;
+      «over_shear» = overShear publishedRules k met ms;
       some = someOver publishedRules k met ms;
       damage = 20 * damaged 1 ms + 28 * damaged 2 ms + 35 * damaged 3 ms + 140 * damaged 4 ms;
     }
 
 -- totals that leave room for one member more
 pub record AddsNumbers (t : Tally) (nd : ℕ) (m : Member) : Type 0 where
-  pub axial : t .axial ≤ 1_000_000_000
-  pub over : t .over ≤ 10_000_000_000
+  pub axial-total : t .«axial_total» ≤ 1_000_000_000
+  pub over-shear : t .«over_shear» ≤ 10_000_000_000
   pub damage : t .damage ≤ 1_000_000
-  pub ratio : nd ≤ 999_999
+  pub ratio : nd ≤ ratioCap
   pub shear : m .case .shear ≤ 9_999_999
   pub kind : m .damage ≤ 4
 
 pub record AddsUp (t : Tally) (k : ℕ) (m : Member) : Type 0 where
   pub knowledge-level : knowledge k ≡ true
   pub good : memberFault m ≡ 0
-  pub axial : t .axial ≤ 1_000_000_000
-  pub over : t .over ≤ 10_000_000_000
+  pub axial-total : t .«axial_total» ≤ 1_000_000_000
+  pub over-shear : t .«over_shear» ≤ 10_000_000_000
   pub damage : t .damage ≤ 1_000_000
 
 -- the members of a storey that the calls judge: good ones, 200 at most
@@ -71,17 +72,17 @@ pub record Rows (ms : List Member) : Type 0 where
 pub record Small (s : Storey) (rows : ℕ) (t : Tally) : Type 0 where
   pub shear : s .shear ≤ 9_999_999
   pub rows-most : rows ≤ 200
-  pub axial : t .axial ≤ 1_000_000_000
-  pub over : t .over ≤ 10_000_000_000
+  pub axial-total : t .«axial_total» ≤ 1_000_000_000
+  pub over-shear : t .«over_shear» ≤ 10_000_000_000
 
 abbrev pub riskyBy : ℕ → ℕ → Tally → Bool
 riskyBy shear c t =
-    exceedsShare (publishedRules .ends) (t .axial) c (t .over) shear
-    || ((ltb (publishedRules .ends .r2 * c) (t .axial) && t .some) || leb (7 * c) (t .damage))
+    exceedsShare (publishedRules .ends) (t .«axial_total») c (t .«over_shear») shear
+    || ((ltb (publishedRules .ends .r2 * c) (t .«axial_total») && t .some) || leb (7 * c) (t .damage))
 
 abbrev pub foundBy : Storey → ℕ → Bool → Tally → StoreyFinding
 foundBy s rows met t =
-    record { axial = t .axial; members = rows; over = t .over; shear = s .shear; risky = riskyBy (s .shear) rows t; walls = met }
+    record { «axial_total» = t .«axial_total»; members = rows; «over_shear» = t .«over_shear»; shear = s .shear; risky = riskyBy (s .shear) rows t; «walls_suffice» = met }
 
 -- the refusals of the call on a storey before its members'
 abbrev pub headFault : ℕ → Storey → ℕ → ℕ
@@ -89,4 +90,4 @@ headFault k s rows = inOrder (countFault (s .count) rows ∷ knowledgeFault k �
 
 -- the finding, or 10
 abbrev pub judgedBy : StoreyFinding → StoreyAnswer
-judgedBy f = pick (eqb (shearFault (f .over)) 0) (Judged f) (Refused 10)
+judgedBy f = pick (eqb (shearFault (f .«over_shear»)) 0) (Judged f) (Refused 10)

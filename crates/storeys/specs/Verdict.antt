@@ -30,7 +30,7 @@ noVerdict = record { fault = 0; place = 0 }
 abbrev pub notedBy : Verdict → ℕ → StoreyFinding → Verdict
 notedBy v place f =
     record {
-      fault = pick (eqb (v .fault) 0) (shearFault (f .over)) (v .fault);
+      fault = pick (eqb (v .fault) 0) (shearFault (f .«over_shear»)) (v .fault);
       place = pick (eqb (v .place) 0) (pick (f .risky) place 0) (v .place);
     }
 

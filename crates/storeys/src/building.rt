@@ -9,7 +9,6 @@ ghost use Rattle.storeys.specs.Storey.{publishedRules};
 ghost use Rattle.storeys.specs.Building.{storeyIn, storeyRowsFault, Answers, placeIn, returnedBuilding, buildingReturned};
 ghost use Rattle.storeys.specs.Verdict.{verdictOf, Counted, GoodRows};
 use crate::BuildingJudgment;
-use crate::row::storey_count;
 use crate::row::storey_number;
 use crate::row::storey_row_fault;
 use crate::storey::found;
@@ -24,15 +23,16 @@ use crate::verdict::refused_building;
 use reading::records::Header;
 use reading::records::Member;
 use reading::records::Storey;
+use reading::survey::count_of;
 
-// The storeys count as many members as there are rows. No sum is made: what is left of the rows is.
+// Whether the counts of the storeys add up to `rows`. Each count is taken from the rows still left, so that nothing can overflow.
 fn counts_fit(storeys: &[Storey], rows: usize) -> bool
     ensures { λ r. ⌜ r ≡ eqb (total (λ s. s .count) (now (storeys .entry))) rows ⌝ }
 {
     let mut left = rows;
     let mut i = 0;
     while i < storeys.len() {
-        let count = storey_count(storeys[i]);
+        let count = count_of(storeys[i]);
         if left < count {
             return false;
         }
@@ -71,7 +71,7 @@ fn rows_fault(storeys: &[Storey], members: &[Member]) -> u64
         if own != 0 {
             return own;
         }
-        let end = before + storey_count(s);
+        let end = before + count_of(s);
         let fault = members_fault(&members[before..end]);
         if fault != 0 {
             return fault;
@@ -92,7 +92,7 @@ fn storeys_verdict(k: u64, storeys: &[Storey], members: &[Member]) -> Verdict
     let mut i = 0;
     while i < storeys.len() {
         let s = storeys[i];
-        let end = before + storey_count(s);
+        let end = before + count_of(s);
         let f = found(k, s, &members[before..end]);
         let place = i + 1;
         v = noted(v, place, f);

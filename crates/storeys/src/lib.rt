@@ -8,16 +8,16 @@ pub mod verdict;
 // What a storey is found to be.
 pub struct StoreyFinding {
     // Σ, the total of n_D
-    pub axial: u64,
+    pub axial_total: u64,
     // c, how many members it has
     pub members: u64,
     // P, the total of V over the members that are over
-    pub over: u64,
+    pub over_shear: u64,
     // W, the storey shear
     pub shear: u64,
     pub risky: bool,
     // its walls carry at least 0.40 of the storey shear
-    pub walls: bool,
+    pub walls_suffice: bool,
 }
 
 // The finding, or the refusal by its number.

@@ -22,12 +22,15 @@ use reading::ranges::storey_fault;
 use reading::records::Member;
 use reading::records::Storey;
 
+// The largest P that is judged; a larger one is refused by 10.
+pub(crate) const OVER_SHEAR_MOST: u64 = 9_999_999_999;
+
 // The totals over some members of a storey.
 pub(crate) struct Tally {
     // Σ
-    pub axial: u64,
+    pub axial_total: u64,
     // P
-    pub over: u64,
+    pub over_shear: u64,
     // some member is over
     pub some: bool,
     // 20, 28, 35 or 140 for each damaged member
@@ -44,12 +47,6 @@ pub(crate) fn storey_number(s: Storey) -> u64
     ensures { λ r. ⌜ r ≡ s .number ⌝ }
 {
     s.number
-}
-
-pub fn storey_count(s: Storey) -> usize
-    ensures { λ r. ⌜ r ≡ s .count ⌝ }
-{
-    s.count as usize
 }
 
 // A member's 3 and 4, then the 5 that is handed in.
@@ -89,8 +86,8 @@ pub(crate) fn no_tally() -> Tally
     ensures { λ r. ⌜ r ≡ noTally ⌝ }
 {
     Tally {
-        axial: 0,
-        over: 0,
+        axial_total: 0,
+        over_shear: 0,
         some: false,
         damage: 0,
     }
@@ -134,15 +131,15 @@ fn add_finding(t: Tally, over: bool, nd: u64, m: Member) -> Tally
     let w = weight(m.damage);
     if over {
         return Tally {
-            axial: t.axial + nd,
-            over: t.over + m.case.shear,
+            axial_total: t.axial_total + nd,
+            over_shear: t.over_shear + m.case.shear,
             some: true,
             damage: t.damage + w,
         };
     }
     Tally {
-        axial: t.axial + nd,
-        over: t.over,
+        axial_total: t.axial_total + nd,
+        over_shear: t.over_shear,
         some: t.some,
         damage: t.damage + w,
     }
@@ -170,17 +167,17 @@ pub(crate) fn meets(s: Storey, walls: u64) -> bool
 }
 
 // P / W exceeds the allowed share, of c members.
-fn exceeds_share(axial: u64, c: u64, over: u64, shear: u64) -> bool
-    requires { ⌜ (axial ≤ 1_000_000_000) × (c ≤ 200) × (over ≤ 10_000_000_000) × (shear ≤ 9_999_999) ⌝ }
-    ensures { λ r. ⌜ r ≡ exceedsShare (publishedRules .ends) axial c over shear ⌝ }
+fn exceeds_share(axial_total: u64, c: u64, over_shear: u64, shear: u64) -> bool
+    requires { ⌜ («axial_total» ≤ 1_000_000_000) × (c ≤ 200) × («over_shear» ≤ 10_000_000_000) × (shear ≤ 9_999_999) ⌝ }
+    ensures { λ r. ⌜ r ≡ exceedsShare (publishedRules .ends) «axial_total» c «over_shear» shear ⌝ }
 {
-    if axial <= SHARE_FROM * c {
-        return 7 * shear < 20 * over;
+    if axial_total <= SHARE_FROM * c {
+        return 7 * shear < 20 * over_shear;
     }
-    if SHARE_TO * c <= axial {
-        return 0 < over;
+    if SHARE_TO * c <= axial_total {
+        return 0 < over_shear;
     }
-    7 * shear * (SHARE_TO * c - axial) < SHARE_FALL * c * over
+    7 * shear * (SHARE_TO * c - axial_total) < SHARE_FALL * c * over_shear
 }
 
 // The storey's finding, from its totals.
@@ -190,26 +187,26 @@ pub(crate) fn finding_of(s: Storey, rows: usize, met: bool, t: Tally) -> StoreyF
 {
     let c = rows as u64;
     StoreyFinding {
-        axial: t.axial,
+        axial_total: t.axial_total,
         members: c,
-        over: t.over,
+        over_shear: t.over_shear,
         shear: s.shear,
         risky: is_risky(s.shear, c, t),
-        walls: met,
+        walls_suffice: met,
     }
 }
 
 fn is_risky(shear: u64, c: u64, t: Tally) -> bool
-    requires { ⌜ (t .axial ≤ 1_000_000_000) × (c ≤ 200) × (t .over ≤ 10_000_000_000) × (shear ≤ 9_999_999) ⌝ }
+    requires { ⌜ (t .«axial_total» ≤ 1_000_000_000) × (c ≤ 200) × (t .«over_shear» ≤ 10_000_000_000) × (shear ≤ 9_999_999) ⌝ }
     ensures { λ r. ⌜ r ≡ riskyBy shear c t ⌝ }
 {
-    if exceeds_share(t.axial, c, t.over, shear) {
+    if exceeds_share(t.axial_total, c, t.over_shear, shear) {
         return true;
     }
     if 7 * c <= t.damage {
         return true;
     }
-    if t.axial <= SHARE_TO * c {
+    if t.axial_total <= SHARE_TO * c {
         return false;
     }
     t.some
@@ -227,7 +224,7 @@ pub(crate) fn refused_storey(number: u64) -> StoreyJudgment
 pub(crate) fn judged_storey(f: StoreyFinding) -> StoreyJudgment
     ensures { λ r. ⌜ r .answer ≡ judgedBy f ⌝ }
 {
-    if 9_999_999_999 < f.over {
+    if OVER_SHEAR_MOST < f.over_shear {
         return refused_storey(10);
     }
     StoreyJudgment {

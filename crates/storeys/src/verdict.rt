@@ -1,7 +1,7 @@
 // The parts of the call on a building that look into records: the header, and each storey's finding.
 ghost use mathlib.Core.Path.{_≡_};
 ghost use mathlib.Core.Bool.{_||_};
-ghost use lib.Dec.{eqb, ltb};
+ghost use lib.Dec.{ltb};
 ghost use Rattle.reading.specs.First.{pick};
 ghost use Rattle.storeys.specs.Storey.{shearFault};
 ghost use Rattle.storeys.specs.Building.{tilted};
@@ -10,12 +10,14 @@ use crate::BuildingAnswer;
 use crate::BuildingFinding;
 use crate::BuildingJudgment;
 use crate::StoreyFinding;
+use crate::row::OVER_SHEAR_MOST;
+use reading::lines::earlier;
 use reading::ranges::header_fault;
 use reading::records::Header;
 
 // What is found of some storeys, from the first on.
 pub(crate) struct Verdict {
-    // 10 where P of one of them is above its bound, else 0
+    // 10 where P of one of them is above `OVER_SHEAR_MOST`, else 0
     pub fault: u64,
     // the place of the first Risky one, counted from 1; 0 where none is
     pub place: u64,
@@ -27,11 +29,11 @@ pub(crate) fn no_verdict() -> Verdict
     Verdict { fault: 0, place: 0 }
 }
 
-// 10 where P is above its bound.
+// 10 where P is above `OVER_SHEAR_MOST`.
 fn shear_fault(f: StoreyFinding) -> u64
-    ensures { λ r. ⌜ r ≡ shearFault (f .over) ⌝ }
+    ensures { λ r. ⌜ r ≡ shearFault (f .«over_shear») ⌝ }
 {
-    if 9_999_999_999 < f.over {
+    if OVER_SHEAR_MOST < f.over_shear {
         return 10;
     }
     0
@@ -47,23 +49,13 @@ fn place_if_risky(f: StoreyFinding, place: usize) -> u64
     0
 }
 
-// `a`, and where that is 0, `b`.
-fn first_of(a: u64, b: u64) -> u64
-    ensures { λ r. ⌜ r ≡ pick (eqb a 0) b a ⌝ }
-{
-    if a == 0 {
-        return b;
-    }
-    a
-}
-
 // With one storey more, at its place.
 pub(crate) fn noted(v: Verdict, place: usize, f: StoreyFinding) -> Verdict
     ensures { λ r. ⌜ r ≡ notedBy v place f ⌝ }
 {
     Verdict {
-        fault: first_of(v.fault, shear_fault(f)),
-        place: first_of(v.place, place_if_risky(f, place)),
+        fault: earlier(v.fault, shear_fault(f)),
+        place: earlier(v.place, place_if_risky(f, place)),
     }
 }
 

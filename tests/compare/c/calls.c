@@ -75,12 +75,13 @@ static void judge_storey(uint64_t k, const struct llunareth_storey *s, const str
     uint64_t out[LLUNARETH_NUMBERS] = {0};
     llunareth_judge_storey(k, (const uint64_t *)s, LLUNARETH_STOREY_NUMBERS, own, (size_t)s->count, out, LLUNARETH_NUMBERS);
     const uint64_t found[] = {
-        out[LLUNARETH_REFUSAL],      out[LLUNARETH_STOREY_AXIAL], out[LLUNARETH_STOREY_MEMBERS], out[LLUNARETH_STOREY_OVER],
-        out[LLUNARETH_STOREY_SHEAR], out[LLUNARETH_STOREY_RISKY], out[LLUNARETH_STOREY_WALLS],
+        out[LLUNARETH_REFUSAL],           out[LLUNARETH_STOREY_AXIAL_TOTAL], out[LLUNARETH_STOREY_MEMBERS],
+        out[LLUNARETH_STOREY_OVER_SHEAR], out[LLUNARETH_STOREY_SHEAR],       out[LLUNARETH_STOREY_RISKY],
+        out[LLUNARETH_STOREY_WALLS_SUFFICE],
     };
     print("storey", found, COUNT(found));
     for (uint64_t i = 0; i < s->count; i++) {
-        judge_member(k, out[LLUNARETH_STOREY_WALLS] == 1, &own[i]);
+        judge_member(k, out[LLUNARETH_STOREY_WALLS_SUFFICE] == 1, &own[i]);
     }
 }
 

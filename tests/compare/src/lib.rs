@@ -138,12 +138,12 @@ pub fn judge_storey(k: u64, s: &Storey, rows: &[MemberRow]) -> Result<StoreyFind
     let f = llunareth::judge_storey(k, &StoreyRow::from(storey), rows).map_err(refusal)?;
     Ok(StoreyFinding {
         number: s.number,
-        sum: f.axial,
+        sum: f.axial_total,
         c: f.members,
-        p: f.over,
+        p: f.over_shear,
         w: f.shear,
         risky: f.risky,
-        meets_wall_share: f.walls,
+        meets_wall_share: f.walls_suffice,
     })
 }
 

@@ -31,10 +31,10 @@ use Rattle.storeys.proofs.verdict.level_of.Met as level-of-met
 use Rattle.storeys.proofs.verdict.level_of.Symbol as level-of-symbol
 use Rattle.storeys.proofs.verdict.level_of.Kinds as level-of-kinds
 use Rattle.storeys.proofs.verdict.level_of.Reads as level-of-reads
-use Rattle.storeys.proofs.row.storey_count.Met as storey-count-met
-use Rattle.storeys.proofs.row.storey_count.Symbol as storey-count-symbol
-use Rattle.storeys.proofs.row.storey_count.Kinds as storey-count-kinds
-use Rattle.storeys.proofs.row.storey_count.Reads as storey-count-reads
+use Rattle.reading.proofs.survey.count_of.Met as count-of-met
+use Rattle.reading.proofs.survey.count_of.Symbol as count-of-symbol
+use Rattle.reading.proofs.survey.count_of.Kinds as count-of-kinds
+use Rattle.reading.proofs.survey.count_of.Reads as count-of-reads
 use Rattle.report.proofs.sheet.put_storey_lines.Met as put-storey-lines-met
 use Rattle.report.proofs.sheet.put_storey_lines.Symbol as put-storey-lines-symbol
 use Rattle.report.proofs.Says as Says
@@ -46,14 +46,14 @@ use Rattle.report.proofs.sheet.put_storeys.Statement.{statement}
 abbrev the-level-of : Callee
 the-level-of = record { n = 0; ps = level-of-kinds.ps; r = level-of-kinds.r; asked = level-of-reads.Asked; learnt = level-of-reads.Learnt; name = level-of-symbol.name }
 
-abbrev the-storey-count : Callee
-the-storey-count = record { n = 0; ps = storey-count-kinds.ps; r = storey-count-kinds.r; asked = storey-count-reads.Asked; learnt = storey-count-reads.Learnt; name = storey-count-symbol.name }
+abbrev the-count-of : Callee
+the-count-of = record { n = 0; ps = count-of-kinds.ps; r = count-of-kinds.r; asked = count-of-reads.Asked; learnt = count-of-reads.Learnt; name = count-of-symbol.name }
 
 abbrev the-put-storey-lines : Callee
 the-put-storey-lines = callee Says.put-storey-lines put-storey-lines-symbol.name
 
 abbrev K : S → Type 1
-K s = Knows the-level-of s × Knows the-storey-count s × Knows the-put-storey-lines s
+K s = Knows the-level-of s × Knows the-count-of s × Knows the-put-storey-lines s
 
 abbrev τ16 : Ty
 τ16 = tyRef erased mut (tyInt w8)
@@ -97,7 +97,7 @@ body κs qs bs =
     forget 13 (old sPtr) ▸
     copy-val storey 9 14 (here storey) gone refl refl ⨾
     forget 14 (full storey) ▸
-    call the-storey-count (λ s k. k .1) 11 [] (val-at 9 (λ x. x), tt) (λ s. ((here storey .is s, refl), tt)) gone tt refl ⨾
+    call the-count-of (λ s k. k .1) 11 [] (val-at 9 (λ x. x), tt) (λ s. ((here storey .is s, refl), tt)) gone tt refl ⨾
     from (cx2 κs qs) (op2 10 u64 (add unsigned) (cp 7 (sc u64)) (cp 11 (sc u64)) gone refl (λ u. refl) (λ u. tt) ⨾
     forget 11 (old u64) ▸
     begin 3 (tt, (tt, (tt, (tt, (tt, (tt, (tt, (tt, (tt, (tt, (tt, (tt, (tt, (tt, (tt, (tt, (tt, (tt, (tt, (tt, (tt, tt))))))))))))))))))))) ▸
@@ -214,6 +214,6 @@ unfolding Code.routine tablesOf
 put-storeys-spec {M} 𝓤 H 𝓜 𝓖 𝓡 = let w : World = record { M = M; 𝓤 = 𝓤; H = H; 𝓜 = 𝓜; 𝓖 = 𝓖; 𝓡 = 𝓡 } in
     meets Says.put-storeys K 1 Code.function body answers w Code.env Key.name (Code.unfolded 𝓤 H 𝓜 𝓡) (
       level-of-reads.known w Code.env level-of-symbol.name level-of-symbol.routine Code.calls-storeys·verdict·level-of (level-of-met.met 𝓤 H 𝓜 𝓖 𝓡),
-      storey-count-reads.known w Code.env storey-count-symbol.name storey-count-symbol.routine Code.calls-storeys·row·storey-count (storey-count-met.met 𝓤 H 𝓜 𝓖 𝓡),
+      count-of-reads.known w Code.env count-of-symbol.name count-of-symbol.routine Code.calls-reading·survey·count-of (count-of-met.met 𝓤 H 𝓜 𝓖 𝓡),
       knows Says.put-storey-lines w Code.env put-storey-lines-symbol.name put-storey-lines-symbol.routine Code.calls-report·sheet·put-storey-lines (put-storey-lines-met.met 𝓤 H 𝓜 𝓖 𝓡),
     )

@@ -20,19 +20,19 @@ use Rattle.walk.proofs.Slice.{R, kept, full, here, sh-ptr, sh-len, val-at, elem
 use Rattle.walk.proofs.Fn.{Callee, Knows, Body, Answers, entry, call, meets}
 use Rattle.reading.proofs.Structs.{storey}
 use Rattle.storeys.proofs.Says as Says
-use Rattle.storeys.proofs.row.storey_count.Met as storey-count-met
-use Rattle.storeys.proofs.row.storey_count.Symbol as storey-count-symbol
-use Rattle.storeys.proofs.row.storey_count.Kinds as storey-count-kinds
-use Rattle.storeys.proofs.row.storey_count.Reads as storey-count-reads
+use Rattle.reading.proofs.survey.count_of.Met as count-of-met
+use Rattle.reading.proofs.survey.count_of.Symbol as count-of-symbol
+use Rattle.reading.proofs.survey.count_of.Kinds as count-of-kinds
+use Rattle.reading.proofs.survey.count_of.Reads as count-of-reads
 use Rattle.storeys.proofs.building.counts_fit.Code
 use Rattle.storeys.proofs.building.counts_fit.Key
 use Rattle.storeys.proofs.building.counts_fit.Statement.{statement}
 
-abbrev the-storey-count : Callee
-the-storey-count = record { n = 0; ps = storey-count-kinds.ps; r = storey-count-kinds.r; asked = storey-count-reads.Asked; learnt = storey-count-reads.Learnt; name = storey-count-symbol.name }
+abbrev the-count-of : Callee
+the-count-of = record { n = 0; ps = count-of-kinds.ps; r = count-of-kinds.r; asked = count-of-reads.Asked; learnt = count-of-reads.Learnt; name = count-of-symbol.name }
 
 abbrev K : S → Type 1
-K s = Knows the-storey-count s
+K s = Knows the-count-of s
 
 abbrev start : Lfts 1 → Shares 1 → Cx
 start κs qs = entry Says.counts-fit K 0 Code.function κs qs
@@ -62,7 +62,7 @@ body κs qs bs =
     elem-out storey 9 8 1 4 0 (λ i. i) noStorey same same gone tt refl refl ⨾
     forget 6 (old u64) ▸
     forget 8 (old sPtr) ▸
-    call the-storey-count (λ s k. k) 5 [] (val-at 9 (λ x. x), tt) (λ s. ((here storey .is s, refl), tt)) gone tt refl ⨾
+    call the-count-of (λ s k. k) 5 [] (val-at 9 (λ x. x), tt) (λ s. ((here storey .is s, refl), tt)) gone tt refl ⨾
     from (cx2 κs qs) (forget 9 (full storey) ▸
     op2 7 sBool (lt unsigned) (cp 3 (sc u64)) (cp 5 (sc u64)) gone refl (λ u. refl) (λ u. tt) ⨾
     when 7 (λ t. t) (sc sBool) (old sBool) refl (set 0 sBool record { op = oBool false; has = λ s. tt } gone refl (λ u. refl) (λ u. tt) ⨾ forget 2 (old u64) ▸ forget 3 (old u64) ▸ forget 4 (old u64) ▸ forget 5 (old u64) ▸ ret tt)
@@ -116,4 +116,4 @@ answers κs qs a good pre bs =
 pub counts-fit-spec : {M : Type 1} → statement M
 unfolding Code.routine tablesOf
 counts-fit-spec {M} 𝓤 H 𝓜 𝓖 𝓡 = let w : World = record { M = M; 𝓤 = 𝓤; H = H; 𝓜 = 𝓜; 𝓖 = 𝓖; 𝓡 = 𝓡 } in
-    meets Says.counts-fit K 0 Code.function body answers w Code.env Key.name (Code.unfolded 𝓤 H 𝓜 𝓡) (storey-count-reads.known w Code.env storey-count-symbol.name storey-count-symbol.routine Code.calls-storeys·row·storey-count (storey-count-met.met 𝓤 H 𝓜 𝓖 𝓡))
+    meets Says.counts-fit K 0 Code.function body answers w Code.env Key.name (Code.unfolded 𝓤 H 𝓜 𝓡) (count-of-reads.known w Code.env count-of-symbol.name count-of-symbol.routine Code.calls-reading·survey·count-of (count-of-met.met 𝓤 H 𝓜 𝓖 𝓡))

@@ -34,10 +34,10 @@ use Rattle.storeys.proofs.row.storey_row_fault.Met as storey-row-fault-
 use Rattle.storeys.proofs.row.storey_row_fault.Symbol as storey-row-fault-symbol
 use Rattle.storeys.proofs.row.storey_row_fault.Kinds as storey-row-fault-kinds
 use Rattle.storeys.proofs.row.storey_row_fault.Reads as storey-row-fault-reads
-use Rattle.storeys.proofs.row.storey_count.Met as storey-count-met
-use Rattle.storeys.proofs.row.storey_count.Symbol as storey-count-symbol
-use Rattle.storeys.proofs.row.storey_count.Kinds as storey-count-kinds
-use Rattle.storeys.proofs.row.storey_count.Reads as storey-count-reads
+use Rattle.reading.proofs.survey.count_of.Met as count-of-met
+use Rattle.reading.proofs.survey.count_of.Symbol as count-of-symbol
+use Rattle.reading.proofs.survey.count_of.Kinds as count-of-kinds
+use Rattle.reading.proofs.survey.count_of.Reads as count-of-reads
 use Rattle.storeys.proofs.storey.members_fault.Met as members-fault-met
 use Rattle.storeys.proofs.storey.members_fault.Symbol as members-fault-symbol
 use Rattle.storeys.proofs.building.rows_fault.Code
@@ -53,14 +53,14 @@ the-storey-repeat-fault = callee Says.storey-repeat-fault storey-repeat-fault-sy
 abbrev the-storey-row-fault : Callee
 the-storey-row-fault = record { n = 0; ps = storey-row-fault-kinds.ps; r = storey-row-fault-kinds.r; asked = storey-row-fault-reads.Asked; learnt = storey-row-fault-reads.Learnt; name = storey-row-fault-symbol.name }
 
-abbrev the-storey-count : Callee
-the-storey-count = record { n = 0; ps = storey-count-kinds.ps; r = storey-count-kinds.r; asked = storey-count-reads.Asked; learnt = storey-count-reads.Learnt; name = storey-count-symbol.name }
+abbrev the-count-of : Callee
+the-count-of = record { n = 0; ps = count-of-kinds.ps; r = count-of-kinds.r; asked = count-of-reads.Asked; learnt = count-of-reads.Learnt; name = count-of-symbol.name }
 
 abbrev the-members-fault : Callee
 the-members-fault = callee Says.members-fault members-fault-symbol.name
 
 abbrev K : S → Type 1
-K s = Knows the-storey-number s × Knows the-storey-repeat-fault s × Knows the-storey-row-fault s × Knows the-storey-count s × Knows the-members-fault s
+K s = Knows the-storey-number s × Knows the-storey-repeat-fault s × Knows the-storey-row-fault s × Knows the-count-of s × Knows the-members-fault s
 
 abbrev τ1 : Ty
 τ1 = tyRef (named 0) imm (pointee (R storey .written))
@@ -113,7 +113,7 @@ body κs qs bs =
     call the-storey-row-fault (λ s k. k .2) 7 [] (val-at 5 (λ x. x), (vAt 6 (λ x. x), tt)) (λ s. ((here storey .is s, refl), ((sc u64 .is s, refl), tt))) gone tt refl ⨾
     from (cx3 κs qs) (op2 11 sBool ne (cp 7 (sc u64)) (lit w64 0 tt) gone refl (λ u. refl) (λ u. tt) ⨾
     when 11 (λ t. t) (sc sBool) (old sBool) refl (forget 5 (full storey) ▸ set 0 u64 (cp 7 (sc u64)) gone refl (λ u. refl) (λ u. tt) ⨾ forget 3 (old u64) ▸ forget 4 (old u64) ▸ forget 6 (old u64) ▸ forget 7 (old u64) ▸ ret tt)
-    (from (cx3 κs qs) (call the-storey-count (λ s k. k .3) 10 [] (val-at 5 (λ x. x), tt) (λ s. ((here storey .is s, refl), tt)) gone tt refl ⨾
+    (from (cx3 κs qs) (call the-count-of (λ s k. k .3) 10 [] (val-at 5 (λ x. x), tt) (λ s. ((here storey .is s, refl), tt)) gone tt refl ⨾
     forget 5 (full storey) ▸
     op2 8 u64 (add unsigned) (cp 3 (sc u64)) (cp 10 (sc u64)) gone refl (λ u. refl) (λ u. tt) ⨾
     forget 10 (old u64) ▸
@@ -224,6 +224,6 @@ rows-fault-spec {M} 𝓤 H 𝓜 𝓖 𝓡 = let w : World = record { M = M; 𝓤
       storey-number-reads.known w Code.env storey-number-symbol.name storey-number-symbol.routine Code.calls-storeys·row·storey-number (storey-number-met.met 𝓤 H 𝓜 𝓖 𝓡),
       knows Says.storey-repeat-fault w Code.env storey-repeat-fault-symbol.name storey-repeat-fault-symbol.routine Code.calls-storeys·building·storey-repeat-fault (storey-repeat-fault-met.met 𝓤 H 𝓜 𝓖 𝓡),
       storey-row-fault-reads.known w Code.env storey-row-fault-symbol.name storey-row-fault-symbol.routine Code.calls-storeys·row·storey-row-fault (storey-row-fault-met.met 𝓤 H 𝓜 𝓖 𝓡),
-      storey-count-reads.known w Code.env storey-count-symbol.name storey-count-symbol.routine Code.calls-storeys·row·storey-count (storey-count-met.met 𝓤 H 𝓜 𝓖 𝓡),
+      count-of-reads.known w Code.env count-of-symbol.name count-of-symbol.routine Code.calls-reading·survey·count-of (count-of-met.met 𝓤 H 𝓜 𝓖 𝓡),
       knows Says.members-fault w Code.env members-fault-symbol.name members-fault-symbol.routine Code.calls-storeys·storey·members-fault (members-fault-met.met 𝓤 H 𝓜 𝓖 𝓡),
     )

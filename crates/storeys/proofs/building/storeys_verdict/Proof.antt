@@ -28,10 +28,10 @@ use Rattle.storeys.proofs.verdict.no_verdict.Met as no-verdict-met
 use Rattle.storeys.proofs.verdict.no_verdict.Symbol as no-verdict-symbol
 use Rattle.storeys.proofs.verdict.no_verdict.Kinds as no-verdict-kinds
 use Rattle.storeys.proofs.verdict.no_verdict.Reads as no-verdict-reads
-use Rattle.storeys.proofs.row.storey_count.Met as storey-count-met
-use Rattle.storeys.proofs.row.storey_count.Symbol as storey-count-symbol
-use Rattle.storeys.proofs.row.storey_count.Kinds as storey-count-kinds
-use Rattle.storeys.proofs.row.storey_count.Reads as storey-count-reads
+use Rattle.reading.proofs.survey.count_of.Met as count-of-met
+use Rattle.reading.proofs.survey.count_of.Symbol as count-of-symbol
+use Rattle.reading.proofs.survey.count_of.Kinds as count-of-kinds
+use Rattle.reading.proofs.survey.count_of.Reads as count-of-reads
 use Rattle.storeys.proofs.storey.found.Met as found-met
 use Rattle.storeys.proofs.storey.found.Symbol as found-symbol
 use Rattle.storeys.proofs.Says as Says
@@ -46,8 +46,8 @@ use Rattle.storeys.proofs.building.storeys_verdict.Statement.{statement
 abbrev the-no-verdict : Callee
 the-no-verdict = record { n = 0; ps = no-verdict-kinds.ps; r = no-verdict-kinds.r; asked = no-verdict-reads.Asked; learnt = no-verdict-reads.Learnt; name = no-verdict-symbol.name }
 
-abbrev the-storey-count : Callee
-the-storey-count = record { n = 0; ps = storey-count-kinds.ps; r = storey-count-kinds.r; asked = storey-count-reads.Asked; learnt = storey-count-reads.Learnt; name = storey-count-symbol.name }
+abbrev the-count-of : Callee
+the-count-of = record { n = 0; ps = count-of-kinds.ps; r = count-of-kinds.r; asked = count-of-reads.Asked; learnt = count-of-reads.Learnt; name = count-of-symbol.name }
 
 abbrev the-found : Callee
 the-found = callee Says.found found-symbol.name
@@ -56,7 +56,7 @@ abbrev the-noted : Callee
 the-noted = record { n = 0; ps = noted-kinds.ps; r = noted-kinds.r; asked = noted-reads.Asked; learnt = noted-reads.Learnt; name = noted-symbol.name }
 
 abbrev K : S → Type 1
-K s = Knows the-no-verdict s × Knows the-storey-count s × Knows the-found s × Knows the-noted s
+K s = Knows the-no-verdict s × Knows the-count-of s × Knows the-found s × Knows the-noted s
 
 abbrev τ18 : Ty
 τ18 = tyRef erased imm (pointee (R member .written))
@@ -95,7 +95,7 @@ body κs qs bs =
     forget 13 (old sPtr) ▸
     copy-val storey 7 14 (here storey) gone refl refl ⨾
     from (cx2 κs qs) (forget 14 (full storey) ▸
-    call the-storey-count (λ s k. k .1) 11 [] (val-at 7 (λ x. x), tt) (λ s. ((here storey .is s, refl), tt)) gone tt refl ⨾
+    call the-count-of (λ s k. k .1) 11 [] (val-at 7 (λ x. x), tt) (λ s. ((here storey .is s, refl), tt)) gone tt refl ⨾
     op2 8 u64 (add unsigned) (cp 5 (sc u64)) (cp 11 (sc u64)) gone refl (λ u. refl) (λ u. tt) ⨾
     forget 11 (old u64) ▸
     op2 11 u64 (mul unsigned) (cp 5 (sc u64)) (lit w64 208 tt) gone refl (λ u. refl) (λ u. tt) ⨾
@@ -193,7 +193,7 @@ unfolding Code.routine tablesOf
 storeys-verdict-spec {M} 𝓤 H 𝓜 𝓖 𝓡 = let w : World = record { M = M; 𝓤 = 𝓤; H = H; 𝓜 = 𝓜; 𝓖 = 𝓖; 𝓡 = 𝓡 } in
     meets Says.storeys-verdict K 0 Code.function body answers w Code.env Key.name (Code.unfolded 𝓤 H 𝓜 𝓡) (
       no-verdict-reads.known w Code.env no-verdict-symbol.name no-verdict-symbol.routine Code.calls-storeys·verdict·no-verdict (no-verdict-met.met 𝓤 H 𝓜 𝓖 𝓡),
-      storey-count-reads.known w Code.env storey-count-symbol.name storey-count-symbol.routine Code.calls-storeys·row·storey-count (storey-count-met.met 𝓤 H 𝓜 𝓖 𝓡),
+      count-of-reads.known w Code.env count-of-symbol.name count-of-symbol.routine Code.calls-reading·survey·count-of (count-of-met.met 𝓤 H 𝓜 𝓖 𝓡),
       knows Says.found w Code.env found-symbol.name found-symbol.routine Code.calls-storeys·storey·found (found-met.met 𝓤 H 𝓜 𝓖 𝓡),
       noted-reads.known w Code.env noted-symbol.name noted-symbol.routine Code.calls-storeys·verdict·noted (noted-met.met 𝓤 H 𝓜 𝓖 𝓡),
     )

@@ -37,13 +37,13 @@ sub-result : tie.Need-sub-result
 sub-result c = search needs
 
 mul-result-5 : tie.Need-mul-result-5
-mul-result-5 c = let a = c .before .before .args in let p = c .before .before .pre in omega (arith, share-left (a .shear) (6500 * a .c - a .axial) (p .3) (omega arith))
+mul-result-5 c = let a = c .before .before .args in let p = c .before .before .pre in omega (arith, share-left (a .shear) (6500 * a .c - a .axial-total) (p .3) (omega arith))
 
 mul-result-6 : tie.Need-mul-result-6
 mul-result-6 c = search needs
 
 mul-result-7 : tie.Need-mul-result-7
-mul-result-7 c = let a = c .before .before .args in let p = c .before .before .pre in omega (arith, share-right (a .c) (a .over) (p .1) (p .2))
+mul-result-7 c = let a = c .before .before .args in let p = c .before .before .pre in omega (arith, share-right (a .c) (a .over-shear) (p .1) (p .2))
 
 returns-3 : tie.Need-returns-3
 unfolding exceedsShare

@@ -5,24 +5,24 @@ use Rattle.storeys.proofs.verdict.noted.Tie as tie
 shear-fault-requires : tie.Need-shear-fault-requires
 shear-fault-requires c κs = search needs
 
-first-of-requires : tie.Need-first-of-requires
-first-of-requires c κs = search needs
+earlier-requires : tie.Need-earlier-requires
+earlier-requires c κs = search needs
 
 place-if-risky-requires : tie.Need-place-if-risky-requires
 place-if-risky-requires c κs = search needs
 
-first-of-requires-2 : tie.Need-first-of-requires-2
-first-of-requires-2 c κs = search needs
+earlier-requires-2 : tie.Need-earlier-requires-2
+earlier-requires-2 c κs = search needs
 
 returns : tie.Need-returns
-returns c = rw (c .first-of2 .ensures, c .before .place-if-risky .ensures, c .before .before .first-of .ensures, c .before .before .before .shear-fault .ensures)
+returns c = rw (c .earlier2 .ensures, c .before .place-if-risky .ensures, c .before .before .earlier .ensures, c .before .before .before .shear-fault .ensures)
 
 pub noted-spec : {M : Type 1} → statement M
 noted-spec =
     tie.close
     (tie.spec
     shear-fault-requires
-    first-of-requires
+    earlier-requires
     place-if-risky-requires
-    first-of-requires-2
+    earlier-requires-2
     returns)
