@@ -118,7 +118,7 @@ fn range_fault(tag: Tag, j: usize, v: u64, storeys: u64) -> u64
     3
 }
 
-// The first of two refusals.
+// The first of two numbers that is not 0.
 pub fn earlier(a: u64, b: u64) -> u64
     ensures { λ r. ⌜ r ≡ pick (eqb a 0) b a ⌝ }
 {
