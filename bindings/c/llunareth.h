@@ -1,6 +1,6 @@
 /*
  * The calls of Llunareth for programs in C (C99 and later) and C++. Link with target/staticlib/libexports.a, which `rt staticlib exports`
- * makes. docs/FORMAT.md has the survey file and the fields with their units and ranges; docs/REFUSALS.md has the refusals.
+ * makes. docs/CALLS.md has the calls and their refusals; docs/FORMAT.md has the survey file and the fields with their units and ranges.
  *
  * A buffer is handed over as a pointer and the number of its elements. The pointer is not null, also where there are none, and a buffer that
  * a call may change overlaps no other.
@@ -62,7 +62,7 @@ struct llunareth_load_case {
 };
 
 /*
- * The M line: a column or a wall. Lengths are in mm. The names are those of docs/FORMAT.md, but for long_side, short_side and load_case:
+ * The M line: a column or a wall. Lengths are in mm. The names are those of docs/CALLS.md, but for long_side, short_side and load_case:
  * long, short and case are words of C.
  */
 struct llunareth_member {

@@ -1,5 +1,5 @@
 //! The proved calls of Llunareth for programs in Rust: read a survey file, check a record, judge a member, a storey and a building, write the
-//! report. docs/FORMAT.md has the survey file and the records, docs/REFUSALS.md the refusals.
+//! report. docs/CALLS.md has the calls and their refusals, docs/FORMAT.md the survey file and its fields.
 //!
 //! No call relies on checks made before it: every file and record, good or bad, yields an answer or a refusal.
 mod findings;

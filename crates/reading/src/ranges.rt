@@ -130,8 +130,8 @@ fn member_allows(j: usize, v: u64) -> bool
     between(v, MEMBER_LEAST[j], MEMBER_MOST[j])
 }
 
-// Field j of a line holds v.
-pub fn range_allows(tag: Tag, j: usize, v: u64, storeys: u64) -> bool
+// Field j of a line may hold v.
+pub(crate) fn range_allows(tag: Tag, j: usize, v: u64, storeys: u64) -> bool
     ensures { λ r. ⌜ r ≡ allows (getD (ranges tag storeys) j never) v ⌝ }
 {
     match tag {

@@ -279,7 +279,7 @@ pub struct Reading {
 }
 
 // The answer for a file, from its bytes and the numbers of rows lent.
-pub fn check(s: &[u8], srows: usize, mrows: usize) -> Reading
+pub(crate) fn check(s: &[u8], srows: usize, mrows: usize) -> Reading
     ensures { λ r. ⌜ tells (r .answer) ≡ told (survey (now (s .entry)) srows mrows) ⌝ }
 {
     let l = header_line(s);

@@ -1,4 +1,4 @@
-//! Demand 3 run through the proved calls: surveys that meet all its conditions, and for each condition a pair that breaks only that one.
+//! Demand 3 run through the proved calls: surveys that meet all its conditions, and for seven of them a pair that breaks only that one.
 use compare::{judge_building, judge_member, judge_storey, member_numbers, member_rows, plain_column};
 use generator::{valid_survey, Rng};
 use independent::{Header, Member, Storey, Survey};
