@@ -244,7 +244,7 @@ fn exact(p: Places, t: Table, class: Class, zone: u64, at: Ratios) -> Fraction
     }
 }
 
-fn three_if(strengthened: u64) -> u64
+fn cut_quarters(strengthened: u64) -> u64
     ensures { λ r. ⌜ r ≡ cutQuarters strengthened ⌝ }
 {
     if strengthened == 1 {
@@ -258,8 +258,8 @@ fn quarters(class: Class, strengthened: u64) -> u64
     ensures { λ r. ⌜ r ≡ quarters class strengthened ⌝ }
 {
     match class {
-        Class::ColumnA => three_if(strengthened),
-        Class::ColumnB => three_if(strengthened),
+        Class::ColumnA => cut_quarters(strengthened),
+        Class::ColumnB => cut_quarters(strengthened),
         Class::ColumnC => 4,
         Class::WallA => 4,
         Class::WallB => 4,

@@ -9,7 +9,7 @@ use Rattle.reading.specs.First.{pick, every}
 use mathlib.Core.Option.{Option, some, none}
 use Rattle.reading.specs.declared.cursor.Cursor.{Cursor}
 use Rattle.reading.specs.declared.cursor.Field.{Field}
-use Rattle.reading.specs.declared.cursor.Field.the-variants.{Number, Unwritten}
+use Rattle.reading.specs.declared.cursor.Field.the-variants.{Number, Miswritten}
 use Rattle.reading.specs.declared.lines.Fields.{Fields}
 use Rattle.reading.specs.declared.records.Tag.{Tag}
 use Rattle.reading.specs.Lines.{tagByte, fieldAt, isWritten, valueAt}
@@ -23,19 +23,19 @@ goesOn v b last =
 -- the field's number if it is written as it must be, and the next place
 abbrev pub fieldStep : Option ℕ → ℕ → Field
 fieldStep (some v) next = Number v (record { at = next })
-fieldStep none next = Unwritten (record { at = next })
+fieldStep none next = Miswritten (record { at = next })
 
 abbrev pub numberOf : Field → ℕ
 numberOf (Number v c) = v
-numberOf (Unwritten c) = 0
+numberOf (Miswritten c) = 0
 
 abbrev pub nextOf : Field → Cursor
 nextOf (Number v c) = c
-nextOf (Unwritten c) = c
+nextOf (Miswritten c) = c
 
 abbrev pub optionOf : Field → Option ℕ
 optionOf (Number v c) = some v
-optionOf (Unwritten c) = none
+optionOf (Miswritten c) = none
 
 -- the bytes have the tag and the LF of a line where they must stand; another LF may stand between
 abbrev pub framed : Tag → List ℕ → Bool

@@ -18,7 +18,7 @@ pub struct Cursor {
 // What a field holds, with the next place.
 pub enum Field {
     Number(u64, Cursor),
-    Unwritten(Cursor),
+    Miswritten(Cursor),
 }
 
 // The eight bytes from `at`, whose digits make n, are a field written with this sign.
@@ -38,14 +38,14 @@ fn plain_at(s: &[u8], at: usize) -> Field
     ensures { λ r. ⌜ r ≡ fieldStep (fieldOf false (take 8 (drop at (now (s .entry))))) (at + 8) ⌝ }
 {
     if s[at] != b' ' {
-        return Field::Unwritten(Cursor { at: at + 8 });
+        return Field::Miswritten(Cursor { at: at + 8 });
     }
     let mut v = 0;
     let mut i = 1;
     while i < 8 {
         let b = s[at + i];
         if !goes_on(v, b, i == 7) {
-            return Field::Unwritten(Cursor { at: at + 8 });
+            return Field::Miswritten(Cursor { at: at + 8 });
         }
         v = push(v, b);
         i += 1;
@@ -60,12 +60,12 @@ fn minus_at(s: &[u8], at: usize) -> Field
 {
     let n = digits(s, at);
     if n == 0 {
-        return Field::Unwritten(Cursor { at: at + 8 });
+        return Field::Miswritten(Cursor { at: at + 8 });
     }
     if is_written(s, at, b'-', n) {
         return Field::Number(ZERO_FORCE - n, Cursor { at: at + 8 });
     }
-    Field::Unwritten(Cursor { at: at + 8 })
+    Field::Miswritten(Cursor { at: at + 8 })
 }
 
 // N_D or N_K, counted from -20,000,000.
@@ -76,7 +76,7 @@ fn force_at(s: &[u8], at: usize) -> Field
     let f = plain_at(s, at);
     match f {
         Field::Number(n, _) => Field::Number(ZERO_FORCE + n, Cursor { at: at + 8 }),
-        Field::Unwritten(_) => minus_at(s, at),
+        Field::Miswritten(_) => minus_at(s, at),
     }
 }
 
@@ -100,7 +100,7 @@ pub(crate) fn number_of(f: Field) -> u64
 {
     match f {
         Field::Number(v, _) => v,
-        Field::Unwritten(_) => 0,
+        Field::Miswritten(_) => 0,
     }
 }
 
@@ -109,6 +109,6 @@ pub(crate) fn next_of(f: Field) -> Cursor
 {
     match f {
         Field::Number(_, c) => c,
-        Field::Unwritten(c) => c,
+        Field::Miswritten(c) => c,
     }
 }

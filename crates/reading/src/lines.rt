@@ -105,7 +105,7 @@ fn fault_of(f: Field, tag: Tag, j: usize, storeys: u64) -> u64
 {
     match f {
         Field::Number(v, _) => range_fault(tag, j, v, storeys),
-        Field::Unwritten(_) => 2,
+        Field::Miswritten(_) => 2,
     }
 }
 
@@ -139,7 +139,7 @@ fn written_too(written: bool, f: Field) -> bool
 {
     match f {
         Field::Number(_, _) => written,
-        Field::Unwritten(_) => false,
+        Field::Miswritten(_) => false,
     }
 }
 

@@ -12,14 +12,14 @@ at c e = ap (λ (k : Class). quarters k (c .args .strengthened)) e
 enum-told : tie.Need-enum-told
 enum-told c = search needs
 
-three-if-requires : tie.Need-three-if-requires
-three-if-requires c κs = search needs
+cut-quarters-requires : tie.Need-cut-quarters-requires
+cut-quarters-requires c κs = search needs
 
 enum-told-2 : tie.Need-enum-told-2
 enum-told-2 c = search needs
 
-three-if-requires-2 : tie.Need-three-if-requires-2
-three-if-requires-2 c κs = search needs
+cut-quarters-requires-2 : tie.Need-cut-quarters-requires-2
+cut-quarters-requires-2 c κs = search needs
 
 enum-told-3 : tie.Need-enum-told-3
 enum-told-3 c = search needs
@@ -31,10 +31,10 @@ enum-told-5 : tie.Need-enum-told-5
 enum-told-5 c = search needs
 
 returns : tie.Need-returns
-returns c = c .three-if .ensures ∙ sym (at (c .before .before .before) (c .before .enum-told .given .1))
+returns c = c .cut-quarters .ensures ∙ sym (at (c .before .before .before) (c .before .enum-told .given .1))
 
 returns-2 : tie.Need-returns-2
-returns-2 c = c .three-if2 .ensures ∙ sym (at (c .before .before .before) (c .before .enum-told2 .given .1))
+returns-2 c = c .cut-quarters2 .ensures ∙ sym (at (c .before .before .before) (c .before .enum-told2 .given .1))
 
 returns-3 : tie.Need-returns-3
 returns-3 c = search needs
@@ -50,9 +50,9 @@ quarters-spec =
     tie.close
     (tie.spec
     enum-told
-    three-if-requires
+    cut-quarters-requires
     enum-told-2
-    three-if-requires-2
+    cut-quarters-requires-2
     enum-told-3
     enum-told-4
     enum-told-5
