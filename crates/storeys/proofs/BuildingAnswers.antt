@@ -15,7 +15,6 @@ use Rattle.reading.specs.declared.records.Storey.{Storey}
 use Rattle.reading.specs.declared.records.Member.{Member}
 use Rattle.reading.proofs.Firsts.{first-none, first-more, last-of}
 use Rattle.reading.proofs.Below.{any-none, any-more, any-holds}
-use Rattle.members.specs.Finding.{knowledge}
 use Rattle.storeys.specs.declared.BuildingAnswer.{BuildingAnswer}
 use Rattle.storeys.specs.declared.BuildingAnswer.the-variants.{Judged, Refused}
 use Rattle.storeys.specs.declared.verdict.Verdict.{Verdict}

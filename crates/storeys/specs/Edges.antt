@@ -1,4 +1,4 @@
--- The edges of document 01 as one table. Each value is found by the definition that the contract of its call cites.
+-- The edges of document 01 as one table. Each value is one of the answer that the contract of its call cites.
 use Prim.Native.Nat.{ℕ, _+_}
 use mathlib.Core.Bool.{false}
 use mathlib.Core.List.{List, [], _∷_, map}
