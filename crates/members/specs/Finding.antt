@@ -143,6 +143,5 @@ returned (Judged f) = found f
 returned (Refused n) = refused n
 
 -- what the paper returns
-unfoldable pub memberReturned : ℕ → Bool → Member → Returned
-memberReturned k met m =
-    pick (knowledge k) (pick (eqb (memberFault m) 0) (found (finding k met m)) (refused (memberFault m))) (refused 3)
+abbrev pub memberReturned : ℕ → Bool → Member → Returned
+memberReturned k met m = returned (memberAnswer k met m)

@@ -21,7 +21,7 @@ use Rattle.storeys.proofs.Refusals.{None, one, rest, in-order-clear}
 use Rattle.report.specs.declared.ReportAnswer.{ReportAnswer}
 use Rattle.report.specs.declared.ReportAnswer.the-variants.{Written, Refused}
 use Rattle.report.specs.Line.{stamped}
-use Rattle.report.specs.Sheet.{buildingLine, lineOf, storeyLines, storeysLines, sheet, sizeOf, Few, faultBy, lengthFault, reportFault, reportAnswer, returnedReport, reportReturned, bufferAfter}
+use Rattle.report.specs.Sheet.{buildingLine, lineOf, storeyLines, storeysLines, sheet, sizeOf, Few, faultBy, lengthFault, reportFault, reportAnswer, bufferAfter}
 use Rattle.report.proofs.Stamps.{stamped-both, stamped-front}
 use Rattle.report.proofs.Rows.{length-building-line, length-storey-lines}
 use Rattle.report.proofs.Survey.{storeys-most, members-most, before-end, part-length}
@@ -109,10 +109,6 @@ module _ (h : Header) (ss : List Storey) (ms : List Member) (before : List ℕ) 
     unfolding reportAnswer
     answer-refused r q = q ∙ rw (← e) (simp (ne-eqb z 0 ne))
 
-    pub returned-refused : (r : ReportAnswer) → r ≡ Refused z → returnedReport r ≡ reportReturned h ss ms (length before)
-    unfolding reportReturned
-    returned-refused r q = rw (q, ← e) (simp (ne-eqb z 0 ne))
-
     pub buffer-refused : before ≡ bufferAfter h ss ms before
     unfolding bufferAfter
     buffer-refused = rw (← e) (simp (ne-eqb z 0 ne))
@@ -135,10 +131,6 @@ module _ (h : Header) (ss : List Storey) (ms : List Member) (before : List ℕ) 
     pub answer-written : (r : ReportAnswer) (n : ℕ) → r ≡ Written n → n ≡ sizeOf (length ss) (length ms) → r ≡ reportAnswer h ss ms (length before)
     unfolding reportAnswer
     answer-written r n q l = q ∙ rw (← e, eq-eqb z 0 zero-fault, length-sheet h ss ms building-clear, l)
-
-    pub returned-written : (r : ReportAnswer) (n : ℕ) → r ≡ Written n → n ≡ sizeOf (length ss) (length ms) → returnedReport r ≡ reportReturned h ss ms (length before)
-    unfolding reportReturned
-    returned-written r n q l = rw (q, ← e, eq-eqb z 0 zero-fault, length-sheet h ss ms building-clear, l)
 
     pub buffer-written : (b : BuildingAnswer) → Answers publishedRules h ss ms b → (filled ended : List ℕ) (p : ℕ) → filled ≡ stamped before 0 (storeysLines (h .knowledge) ss ms 0 (length ss)) → p ≡ 86 * length ms + 74 * length ss → ended ≡ stamped filled p (lineOf b) → ended ≡ bufferAfter h ss ms before
     unfolding bufferAfter sheet

@@ -20,7 +20,7 @@ use Rattle.walk.proofs.Fn.{Plain}
 use Rattle.walk.proofs.Slice.{R, taken, made}
 use Rattle.reading.proofs.Structs.{header, member, storey}
 use Rattle.report.specs.Line.{stamped}
-use Rattle.report.specs.Sheet.{memberLines, storeyLines, storeysLines, reportAnswer, returnedReport, reportReturned, bufferAfter}
+use Rattle.report.specs.Sheet.{memberLines, storeyLines, storeysLines, reportAnswer, bufferAfter}
 use Rattle.report.proofs.Structs.{reportjudgment}
 
 abbrev pub bytes : RattleType
@@ -68,7 +68,6 @@ write-report = record {
   requires = λ κs a. [];
   ensures = λ κs a z e.
       (z .answer ≡ reportAnswer (a .0) (a .1 .0 .now) (a .1 .1 .0 .now) (length (a .1 .1 .1 .0 .now)))
-      ∷ (returnedReport (z .answer) ≡ reportReturned (a .0) (a .1 .0 .now) (a .1 .1 .0 .now) (length (a .1 .1 .1 .0 .now)))
       ∷ (e .1 .1 .1 .0 .now ≡ bufferAfter (a .0) (a .1 .0 .now) (a .1 .1 .0 .now) (a .1 .1 .1 .0 .now))
       ∷ [];
 }

@@ -97,11 +97,8 @@ returnedReport (Written n) = record { refusal = 0; line = 0; values = n ∷ [] }
 returnedReport (Refused n) = refused n
 
 -- what the paper returns
-unfoldable pub reportReturned : Header → List Storey → List Member → ℕ → Returned
-reportReturned h ss ms room =
-    pick (eqb (reportFault h ss ms room) 0)
-    (record { refusal = 0; line = 0; values = length (sheet h ss ms) ∷ [] })
-    (refused (reportFault h ss ms room))
+abbrev pub reportReturned : Header → List Storey → List Member → ℕ → Returned
+reportReturned h ss ms room = returnedReport (reportAnswer h ss ms room)
 
 -- the buffer afterwards: the sheet "from the front" and the bytes after it unchanged; all of it unchanged by a refusal
 unfoldable pub bufferAfter : Header → List Storey → List Member → List ℕ → List ℕ

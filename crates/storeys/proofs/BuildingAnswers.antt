@@ -15,13 +15,12 @@ use Rattle.reading.specs.declared.records.Storey.{Storey}
 use Rattle.reading.specs.declared.records.Member.{Member}
 use Rattle.reading.proofs.Firsts.{first-none, first-more, last-of}
 use Rattle.reading.proofs.Below.{any-none, any-more, any-holds}
-use Rattle.members.specs.Finding.{knowledge}
 use Rattle.storeys.specs.declared.BuildingAnswer.{BuildingAnswer}
 use Rattle.storeys.specs.declared.BuildingAnswer.the-variants.{Judged, Refused}
 use Rattle.storeys.specs.declared.verdict.Verdict.{Verdict}
 use Rattle.reading.specs.Totals.{total}
 use Rattle.storeys.specs.Storey.{publishedRules, countFault}
-use Rattle.storeys.specs.Building.{riskyAt, countsFault, storeyRowsFault, shearFaultAt, buildingFault, tilted, someRisky, buildingRisky, buildingFinding, buildingAnswerBy, PlaceOk, nowhere, named, placeIn, Answers, returnedBuilding, buildingReturned}
+use Rattle.storeys.specs.Building.{riskyAt, countsFault, storeyRowsFault, shearFaultAt, buildingFault, tilted, someRisky, buildingRisky, buildingFinding, buildingAnswerBy, PlaceOk, nowhere, named, Answers}
 use Rattle.storeys.specs.Verdict.{headerCallFault, placeAt, verdictOf, verdictAnswer, Counted, GoodRows}
 use Rattle.storeys.proofs.Refusals.{None, one, rest, in-order-clear, count-clear}
 use Rattle.storeys.proofs.Accepted.{header-known}
@@ -58,10 +57,6 @@ nested true a b later e = rw (last-of b)
 nested false a b later e = rw e
 
 -- ---- the answer
-pub record Told (h : Header) (ss : List Storey) (ms : List Member) (x : BuildingAnswer) : Type 0 where
-  pub answers : Answers publishedRules h ss ms x
-  pub returned : returnedBuilding x ≡ buildingReturned h ss ms (placeIn x)
-
 module _ (h : Header) (ss : List Storey) (ms : List Member) where
   abbrev fault : ℕ
   fault = buildingFault publishedRules h ss ms
@@ -72,11 +67,11 @@ module _ (h : Header) (ss : List Storey) (ms : List Member) where
   abbrev shears-fault : ℕ
   shears-fault = first 0 (λ n. n) (shearFaultAt publishedRules (h .knowledge) ss ms) (length ss)
 
-  refused-by : (n : ℕ) → n ≡ fault → (n ≡ 0 → ⊥) → Told h ss ms (Refused n)
-  unfolding buildingAnswerBy buildingReturned
-  refused-by n q ne = record { answers = record { same = rw (← q, ne-eqb n 0 ne); place = tt }; returned = rw (← q, ne-eqb n 0 ne) }
+  refused-by : (n : ℕ) → n ≡ fault → (n ≡ 0 → ⊥) → Answers publishedRules h ss ms (Refused n)
+  unfolding buildingAnswerBy
+  refused-by n q ne = record { same = rw (← q, ne-eqb n 0 ne); place = tt }
 
-  pub refused : (x : BuildingAnswer) (n : ℕ) → x ≡ Refused n → n ≡ fault → (n ≡ 0 → ⊥) → Told h ss ms x
+  pub refused : (x : BuildingAnswer) (n : ℕ) → x ≡ Refused n → n ≡ fault → (n ≡ 0 → ⊥) → Answers publishedRules h ss ms x
   refused x n e q ne = rw e (refused-by n q ne)
 
   placed : (x : ℕ) → Seen (riskyAt publishedRules (h .knowledge) ss ms) (length ss) x → (ltb 0 x ≡ someRisky publishedRules h ss ms) × PlaceOk publishedRules h ss ms x
@@ -90,18 +85,15 @@ module _ (h : Header) (ss : List Storey) (ms : List Member) where
   place-found v e = placed (v .place) (rw e (seen (riskyAt publishedRules (h .knowledge) ss ms) (length ss)))
 
   judged-by : (v : Verdict) → v ≡ verdictOf (h .knowledge) ss ms (length ss) → v .fault ≡ fault → v .fault ≡ 0
-      → Told h ss ms (Judged (record { tilted = tilted h; risky = ltb 0 (v .place) || tilted h; place = v .place }))
-  unfolding buildingAnswerBy buildingReturned buildingFinding buildingRisky
+      → Answers publishedRules h ss ms (Judged (record { tilted = tilted h; risky = ltb 0 (v .place) || tilted h; place = v .place }))
+  unfolding buildingAnswerBy buildingFinding buildingRisky
   judged-by v e q z =
       let p = place-found v e in
       let none : fault ≡ 0 = sym q ∙ z in
-      record {
-        answers = record { same = rw (eq-eqb fault 0 none, p .0); place = p .1 };
-        returned = rw (eq-eqb fault 0 none, p .0);
-      }
+      record { same = rw (eq-eqb fault 0 none, p .0); place = p .1 }
 
   by-verdict : (t : Bool) (v : Verdict) → eqb (v .fault) 0 ≡ t → v ≡ verdictOf (h .knowledge) ss ms (length ss) → v .fault ≡ fault
-      → Told h ss ms (pick t (Judged (record { tilted = tilted h; risky = ltb 0 (v .place) || tilted h; place = v .place })) (Refused (v .fault)))
+      → Answers publishedRules h ss ms (pick t (Judged (record { tilted = tilted h; risky = ltb 0 (v .place) || tilted h; place = v .place })) (Refused (v .fault)))
   by-verdict true v b e q = judged-by v e q (eqb-true (v .fault) 0 b)
   by-verdict false v b e q = refused-by (v .fault) q (eqb-false (v .fault) 0 b)
 
@@ -116,7 +108,7 @@ module _ (h : Header) (ss : List Storey) (ms : List Member) where
         ∙ in-order-both (countFault (h .count) (length ss) ∷ countFault (total (λ s. s .count) ss) (length ms) ∷ headerFault h ∷ []) (rows-fault ∷ shears-fault ∷ [])
         ∙ rw (← first-is, last-of shears-fault)
 
-    pub refused-at-once : (x : BuildingAnswer) → x ≡ Refused r → (r ≡ 0 → ⊥) → Told h ss ms x
+    pub refused-at-once : (x : BuildingAnswer) → x ≡ Refused r → (r ≡ 0 → ⊥) → Answers publishedRules h ss ms x
     refused-at-once x q ne = refused x r q (sym (fault-is ∙ rw (ne-eqb r 0 ne))) ne
 
     module _ (z : r ≡ 0) where
@@ -130,14 +122,14 @@ module _ (h : Header) (ss : List Storey) (ms : List Member) where
         rows-decide : fault ≡ pick (eqb f 0) shears-fault f
         rows-decide = fault-is ∙ rw (z, ← q)
 
-        pub refused-rows : (x : BuildingAnswer) → x ≡ Refused f → (f ≡ 0 → ⊥) → Told h ss ms x
+        pub refused-rows : (x : BuildingAnswer) → x ≡ Refused f → (f ≡ 0 → ⊥) → Answers publishedRules h ss ms x
         refused-rows x p ne = refused x f p (sym (rows-decide ∙ rw (ne-eqb f 0 ne))) ne
 
         module _ (y : f ≡ 0) (k : ℕ) (l : k ≡ h .knowledge) where
           pub good-rows : GoodRows k ss ms
           good-rows = record { knowledge-level = rw l (header-known h (one (rest (rest clear-first)))); counted = counted; good = sym q ∙ y }
 
-          pub judged-rows : (v : Verdict) (x : BuildingAnswer) → v ≡ verdictOf k ss ms (length ss) → x ≡ verdictAnswer h v → Told h ss ms x
+          pub judged-rows : (v : Verdict) (x : BuildingAnswer) → v ≡ verdictOf k ss ms (length ss) → x ≡ verdictAnswer h v → Answers publishedRules h ss ms x
           unfolding verdictOf
           judged-rows v x p w =
               let p' : v ≡ verdictOf (h .knowledge) ss ms (length ss) = rw (← l) p in

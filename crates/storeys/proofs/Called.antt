@@ -17,14 +17,14 @@ use Rattle.reading.proofs.Firsts.{in-order-last, pick-zero, pick-other, pick-cl
 use Rattle.reading.proofs.Files.{count-most}
 use Rattle.reading.proofs.Validity.{clear}
 use Rattle.members.specs.Units.{ratioCap}
-use Rattle.members.specs.Finding.{axialRatioD, knowledge, refused}
+use Rattle.members.specs.Finding.{axialRatioD, knowledge}
 use Rattle.members.specs.Class.{isWall}
 use Rattle.storeys.specs.declared.StoreyFinding.{StoreyFinding}
 use Rattle.storeys.specs.declared.StoreyAnswer.{StoreyAnswer}
 use Rattle.storeys.specs.declared.StoreyAnswer.the-variants.{Refused}
 use Rattle.storeys.specs.declared.row.Tally.{Tally}
 use Rattle.reading.specs.Totals.{total}
-use Rattle.storeys.specs.Storey.{publishedRules, wallShear, meetsWallShare, axialTotal, over, shearIfOver, overShear, storeyRisky, riskyByDamage, storeyFinding, countFault, knowledgeFault, shearFault, memberIn, noMember, memberRowsFault, storeyCallFault, storeyAnswerBy, storeyAnswer, returnedStorey, storeyReturned}
+use Rattle.storeys.specs.Storey.{publishedRules, wallShear, meetsWallShare, axialTotal, over, shearIfOver, overShear, storeyRisky, riskyByDamage, storeyFinding, countFault, knowledgeFault, shearFault, memberIn, noMember, memberRowsFault, storeyCallFault, storeyAnswerBy, storeyAnswer}
 use Rattle.storeys.specs.Tally.{tallyOf, Rows, Small, foundBy, headFault, judgedBy}
 use Rattle.storeys.proofs.Rows.{nd-most}
 use Rattle.storeys.proofs.Loops.{row-valid, pick-most}
@@ -84,22 +84,15 @@ module _ (k : ℕ) (s : Storey) (rows : List Member) (first : ℕ) (h : first �
   unfolding storeyAnswerBy
   refused-is n e ne = rw e (simp (ne-eqb n 0 ne))
 
-  returned-is : (n : ℕ) → storeyCallFault publishedRules k s rows ≡ n → (n ≡ 0 → ⊥) → refused n ≡ storeyReturned k s rows
-  unfolding storeyReturned
-  returned-is n e ne = rw e (simp (ne-eqb n 0 ne))
-
-  both-refused : (n : ℕ) (a : StoreyAnswer) → storeyCallFault publishedRules k s rows ≡ n → (n ≡ 0 → ⊥) → a ≡ Refused n → (a ≡ storeyAnswer k s rows) × (returnedStorey a ≡ storeyReturned k s rows)
-  both-refused n a e ne q = (q ∙ refused-is n e ne, ap returnedStorey q ∙ returned-is n e ne)
-
-  pub head-refused : (a : StoreyAnswer) → (first ≡ 0 → ⊥) → a ≡ Refused first → (a ≡ storeyAnswer k s rows) × (returnedStorey a ≡ storeyReturned k s rows)
-  head-refused a ne q = both-refused first a (all-three ∙ rw (pick-other first (memberRowsFault rows) ne) (pick-other first (shearFault p) ne)) ne q
+  pub head-refused : (a : StoreyAnswer) → (first ≡ 0 → ⊥) → a ≡ Refused first → a ≡ storeyAnswer k s rows
+  head-refused a ne q = q ∙ refused-is first (all-three ∙ rw (pick-other first (memberRowsFault rows) ne) (pick-other first (shearFault p) ne)) ne
 
   module _ (z : first ≡ 0) (f : ℕ) (fp : f ≡ memberRowsFault rows) where
     after : storeyCallFault publishedRules k s rows ≡ pick (eqb f 0) (shearFault p) f
     after = all-three ∙ rw (pick-zero first (memberRowsFault rows) z, ← fp)
 
-    pub rows-refused : (a : StoreyAnswer) → (f ≡ 0 → ⊥) → a ≡ Refused f → (a ≡ storeyAnswer k s rows) × (returnedStorey a ≡ storeyReturned k s rows)
-    rows-refused a ne q = both-refused f a (after ∙ pick-other f (shearFault p) ne) ne q
+    pub rows-refused : (a : StoreyAnswer) → (f ≡ 0 → ⊥) → a ≡ Refused f → a ≡ storeyAnswer k s rows
+    rows-refused a ne q = q ∙ refused-is f (after ∙ pick-other f (shearFault p) ne) ne
 
     clear-head : inOrder (countFault (s .count) (length rows) ∷ knowledgeFault k ∷ storeyFault s ∷ []) ≡ 0
     clear-head = sym h ∙ z
@@ -131,10 +124,10 @@ module _ (k : ℕ) (s : Storey) (rows : List Member) (first : ℕ) (h : first �
       last-is : storeyCallFault publishedRules k s rows ≡ shearFault p
       last-is = after ∙ pick-zero f (shearFault p) y
 
-      by-shear : (t : Bool) (x : StoreyFinding) → leb p 9_999_999_999 ≡ t → x ≡ storeyFinding publishedRules k (s .shear) rows → (judgedBy x ≡ storeyAnswer k s rows) × (returnedStorey (judgedBy x) ≡ storeyReturned k s rows)
-      unfolding storeyAnswerBy storeyReturned storeyFinding
-      by-shear true x e q = rw (q, last-is) (simp e (refl, refl))
-      by-shear false x e q = rw (q, last-is) (simp e (refl, refl))
+      by-shear : (t : Bool) (x : StoreyFinding) → leb p 9_999_999_999 ≡ t → x ≡ storeyFinding publishedRules k (s .shear) rows → judgedBy x ≡ storeyAnswer k s rows
+      unfolding storeyAnswerBy storeyFinding
+      by-shear true x e q = rw (q, last-is) (simp e)
+      by-shear false x e q = rw (q, last-is) (simp e)
 
-      pub judged-is : (a : StoreyAnswer) (x : StoreyFinding) → x ≡ storeyFinding publishedRules k (s .shear) rows → a ≡ judgedBy x → (a ≡ storeyAnswer k s rows) × (returnedStorey a ≡ storeyReturned k s rows)
+      pub judged-is : (a : StoreyAnswer) (x : StoreyFinding) → x ≡ storeyFinding publishedRules k (s .shear) rows → a ≡ judgedBy x → a ≡ storeyAnswer k s rows
       judged-is a x q e = rw e (by-shear (leb p 9_999_999_999) x refl q)

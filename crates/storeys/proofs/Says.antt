@@ -15,9 +15,9 @@ use Rattle.reading.specs.First.{pick, any, first}
 use Rattle.reading.specs.Records.{storeyFault}
 use Rattle.members.specs.Finding.{knowledge}
 use Rattle.reading.specs.Totals.{total}
-use Rattle.storeys.specs.Storey.{publishedRules, wallShear, memberIn, memberRowsFault, storeyFinding, storeyAnswer, returnedStorey, storeyReturned}
+use Rattle.storeys.specs.Storey.{publishedRules, wallShear, memberIn, memberRowsFault, storeyFinding, storeyAnswer}
 use Rattle.storeys.specs.Tally.{tallyOf, Rows}
-use Rattle.storeys.specs.Building.{storeyIn, storeyRowsFault, Answers as Answered, placeIn, returnedBuilding, buildingReturned}
+use Rattle.storeys.specs.Building.{storeyIn, storeyRowsFault, Answers as Answered}
 use Rattle.storeys.specs.Verdict.{verdictOf, Counted, GoodRows}
 use Rattle.walk.proofs.Fn.{Plain}
 use Rattle.walk.proofs.Slice.{R, taken, made}
@@ -57,10 +57,7 @@ found = record {
 abbrev pub judge-storey : Plain {n = 1} (pNum w64 ∷ taken storey ∷ pShrS (R member) 0 tt ∷ []) (made storeyjudgment)
 judge-storey = record {
   requires = λ κs a. [];
-  ensures = λ κs a z e.
-      (z .answer ≡ storeyAnswer (a .0) (a .1 .0) (a .1 .1 .0 .now))
-      ∷ (returnedStorey (z .answer) ≡ storeyReturned (a .0) (a .1 .0) (a .1 .1 .0 .now))
-      ∷ [];
+  ensures = λ κs a z e. (z .answer ≡ storeyAnswer (a .0) (a .1 .0) (a .1 .1 .0 .now)) ∷ [];
 }
 
 abbrev pub counts-fit : Plain {n = 1} (pShrS (R storey) 0 tt ∷ pNum w64 ∷ []) rBool
@@ -90,8 +87,5 @@ storeys-verdict = record {
 abbrev pub judge-building : Plain {n = 2} (taken header ∷ pShrS (R storey) 0 tt ∷ pShrS (R member) 1 tt ∷ []) (made buildingjudgment)
 judge-building = record {
   requires = λ κs a. [];
-  ensures = λ κs a z e.
-      Answered publishedRules (a .0) (a .1 .0 .now) (a .1 .1 .0 .now) (z .answer)
-      ∷ (returnedBuilding (z .answer) ≡ buildingReturned (a .0) (a .1 .0 .now) (a .1 .1 .0 .now) (placeIn (z .answer)))
-      ∷ [];
+  ensures = λ κs a z e. Answered publishedRules (a .0) (a .1 .0 .now) (a .1 .1 .0 .now) (z .answer) ∷ [];
 }

@@ -122,8 +122,5 @@ returnedBuilding (Judged f) = buildingFound f
 returnedBuilding (Refused n) = refused n
 
 -- what the paper returns, with the place that the answer names
-unfoldable pub buildingReturned : Header → List Storey → List Member → ℕ → Returned
-buildingReturned h ss ms place =
-    pick (eqb (buildingFault publishedRules h ss ms) 0)
-    (buildingFound (buildingFinding publishedRules h ss ms place))
-    (refused (buildingFault publishedRules h ss ms))
+abbrev pub buildingReturned : Header → List Storey → List Member → ℕ → Returned
+buildingReturned h ss ms place = returnedBuilding (buildingAnswerBy publishedRules h ss ms place)

@@ -180,8 +180,5 @@ returnedStorey (Judged f) = storeyFound f
 returnedStorey (Refused n) = refused n
 
 -- what the paper returns
-unfoldable pub storeyReturned : ℕ → Storey → List Member → Returned
-storeyReturned k s ms =
-    pick (eqb (storeyCallFault publishedRules k s ms) 0)
-    (storeyFound (storeyFinding publishedRules k (s .shear) ms))
-    (refused (storeyCallFault publishedRules k s ms))
+abbrev pub storeyReturned : ℕ → Storey → List Member → Returned
+storeyReturned k s ms = returnedStorey (storeyAnswer k s ms)

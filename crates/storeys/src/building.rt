@@ -6,7 +6,7 @@ ghost use lib.ListN.{length};
 ghost use Rattle.reading.specs.First.{pick, any, first};
 ghost use Rattle.reading.specs.Totals.{total};
 ghost use Rattle.storeys.specs.Storey.{publishedRules};
-ghost use Rattle.storeys.specs.Building.{storeyIn, storeyRowsFault, Answers, placeIn, returnedBuilding, buildingReturned};
+ghost use Rattle.storeys.specs.Building.{storeyIn, storeyRowsFault, Answers};
 ghost use Rattle.storeys.specs.Verdict.{verdictOf, Counted, GoodRows};
 use crate::BuildingJudgment;
 use crate::row::storey_number;
@@ -105,7 +105,6 @@ fn storeys_verdict(k: u64, storeys: &[Storey], members: &[Member]) -> Verdict
 // The call on a building: its header, its storeys, and the members of all of them in survey order.
 pub fn judge_building(h: Header, storeys: &[Storey], members: &[Member]) -> BuildingJudgment
     ensures { λ r. ⌜ Answers publishedRules h (now (storeys .entry)) (now (members .entry)) (r .answer) ⌝ }
-    ensures { λ r. ⌜ returnedBuilding (r .answer) ≡ buildingReturned h (now (storeys .entry)) (now (members .entry)) (placeIn (r .answer)) ⌝ }
 {
     let fit = counts_fit(storeys, members.len());
     let first = header_call_fault(h, storeys.len(), fit);

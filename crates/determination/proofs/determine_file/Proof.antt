@@ -250,7 +250,7 @@ answers κs qs a good pre bs = (
                                           λ f. (
                                             refl,
                                             λ last.
-                                                told (ends (survey (a .0 .now) 10 320) (tells (g .1 .answer)) (h .1) (take (n .1) (g .2 .1 .0)) (take (k .1) (g .2 .1 .1 .0)) (a .1 .0 .now) (w .2 .1 .1 .1 .0) (f .2 .0) (w .1 .answer) (f .1) (g .5 .0) (h .5) (storeys-taken (survey (a .0 .now) 10 320) (tells (g .1 .answer)) (g .5 .0) (n .1) (replicate 10 (s .1)) (g .2 .1 .0) (n .5) (g .5 .1 .0)) (members-taken (survey (a .0 .now) 10 320) (tells (g .1 .answer)) (g .5 .0) (k .1) (replicate 320 (m .1)) (g .2 .1 .1 .0) (k .5) (g .5 .1 .1)) (w .5 .0) (w .5 .1 .1) (f .5 .0) (f .5 .1)) λ end. (
+                                                told (ends (survey (a .0 .now) 10 320) (tells (g .1 .answer)) (h .1) (take (n .1) (g .2 .1 .0)) (take (k .1) (g .2 .1 .1 .0)) (a .1 .0 .now) (w .2 .1 .1 .1 .0) (f .2 .0) (w .1 .answer) (f .1) (g .5 .0) (h .5) (storeys-taken (survey (a .0 .now) 10 320) (tells (g .1 .answer)) (g .5 .0) (n .1) (replicate 10 (s .1)) (g .2 .1 .0) (n .5) (g .5 .1 .0)) (members-taken (survey (a .0 .now) 10 320) (tells (g .1 .answer)) (g .5 .0) (k .1) (replicate 320 (m .1)) (g .2 .1 .1 .0) (k .5) (g .5 .1 .1)) (w .5 .0) (w .5 .1) (f .5 .0) (f .5 .1)) λ end. (
                                                   (refl, (fix-len (a .1 .0 .ptr) (a .1 .0 .name) (f .2 .0) (a .1 .0 .now) (last ∙ back), tt)),
                                                   (end .size, end .bytes),
                                                 ),

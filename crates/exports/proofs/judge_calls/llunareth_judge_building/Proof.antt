@@ -97,7 +97,7 @@ answers κs qs a good pre bs = (
           refl,
           λ back. (
             (refl, (refl, (refl, (fix-len (a .1 .1 .1 .0 .ptr) (a .1 .1 .1 .0 .name) (p .2 .0) (a .1 .1 .1 .0 .now) back, tt)))),
-            record { answer = g .1 .answer; given = subst (λ (x : Header). Answered publishedRules x (a .1 .0 .now) (a .1 .1 .0 .now) (g .1 .answer)) (s .5) (g .5 .0); returned = p .5 .0; written = p .5 .1 },
+            record { answer = g .1 .answer; given = subst (λ (x : Header). Answered publishedRules x (a .1 .0 .now) (a .1 .1 .0 .now) (g .1 .answer)) (s .5) (g .5); returned = p .5 .0; written = p .5 .1 },
           ),
         ),
       ),

@@ -5,7 +5,7 @@ use Prim.Native.Nat.{ℕ}
 use Rattle.exports.specs.Words.{handed, ten}
 use Rattle.report.specs.Line.{atFront}
 use lib.ListN.{getD}
-use Rattle.members.specs.Finding.{Returned, memberReturned}
+use Rattle.members.specs.Finding.{Returned, returned, memberReturned}
 use Rattle.reading.proofs.Held.{member-same}
 use Rattle.exports.proofs.judge_calls.llunareth_judge_member.Statement.{statement}
 use Rattle.exports.proofs.judge_calls.llunareth_judge_member.Tie as tie
@@ -32,7 +32,7 @@ returns : tie.Need-returns
 returns c =
     let m = c .before .before .before .before .before .before .member-of .ensures ∙ member-same (λ (j : ℕ). getD (c .before .before .before .before .before .before .before .values-of .result) j 0) (handed (c .before .before .before .before .before .before .before .before .before .before .args .values .now)) (c .before .before .before .before .before .before .before .values-of .ensures) in
     let w = c .before .before .before .member-words .ensures in
-    let e = c .before .before .before .before .before .judge-member .ensures .1 ∙ ap (memberReturned (c .before .before .before .before .before .before .before .before .before .before .args .k) (c .before .before .before .before .before .before .before .before .before .before .args .met)) m in
+    let e = ap returned (c .before .before .before .before .before .judge-member .ensures) ∙ ap (memberReturned (c .before .before .before .before .before .before .before .before .before .before .args .k) (c .before .before .before .before .before .before .before .before .before .before .args .met)) m in
     let p = c .before .before .put-ten .ensures in
     (p .0 ∙ ap (λ (w : List ℕ). getD w 0 0) w ∙ ap (λ (r : Returned). r .refusal) e, p .1 ∙ ap (λ (w : List ℕ). atFront w (c .before .before .before .before .before .before .before .before .before .before .args .out .now)) w ∙ ap (λ (r : Returned). atFront (ten r) (c .before .before .before .before .before .before .before .before .before .before .args .out .now)) e)
 

@@ -18,7 +18,7 @@ use Rattle.walk.proofs.Fn.{Callee, Knows, Body, Answers, entry, callee, knows, 
 use Rattle.reading.proofs.Structs.{member, storey}
 use Rattle.storeys.proofs.Structs.{storeyjudgment}
 use Rattle.reading.specs.declared.records.Storey.{Storey}
-use Rattle.storeys.specs.Storey.{storeyReturned}
+use Rattle.storeys.specs.Storey.{returnedStorey, storeyReturned}
 use Rattle.members.specs.Finding.{Returned}
 use Rattle.exports.specs.Words.{ten}
 use Rattle.report.specs.Line.{atFront}
@@ -98,7 +98,7 @@ answers κs qs a good pre bs = (
           refl,
           λ back. (
             (tt, (refl, (refl, (fix-len (a .1 .1 .1 .0 .ptr) (a .1 .1 .1 .0 .name) (p .2 .0) (a .1 .1 .1 .0 .now) back, tt)))),
-            told (g .5 .1 ∙ ap (λ (x : Storey). storeyReturned (a .0) x (a .1 .1 .0 .now)) (s .5)) λ e. (p .5 .0 ∙ ap (λ (r : Returned). r .refusal) e, p .5 .1 ∙ ap (λ (r : Returned). atFront (ten r) (a .1 .1 .1 .0 .now)) e),
+            told (ap returnedStorey (g .5) ∙ ap (λ (x : Storey). storeyReturned (a .0) x (a .1 .1 .0 .now)) (s .5)) λ e. (p .5 .0 ∙ ap (λ (r : Returned). r .refusal) e, p .5 .1 ∙ ap (λ (r : Returned). atFront (ten r) (a .1 .1 .1 .0 .now)) e),
           ),
         ),
       ),

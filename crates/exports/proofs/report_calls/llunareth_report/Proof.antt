@@ -19,7 +19,7 @@ use Rattle.report.proofs.Structs.{reportjudgment}
 use Rattle.reading.specs.declared.records.Header.{Header}
 use Rattle.reading.proofs.Structs.{header, member, storey}
 use Rattle.members.specs.Finding.{Returned}
-use Rattle.report.specs.Sheet.{reportReturned, bufferAfter}
+use Rattle.report.specs.Sheet.{returnedReport, reportReturned, bufferAfter}
 use Rattle.exports.specs.Words.{ten}
 use Rattle.report.specs.Line.{atFront}
 use Rattle.exports.proofs.Says as Says
@@ -123,11 +123,11 @@ answers κs qs a good pre bs = (
               refl,
               λ last. (
                 (refl, (refl, (refl, (fix-len (a .1 .1 .1 .0 .ptr) (a .1 .1 .1 .0 .name) (r .2 .1 .1 .1 .0) (a .1 .1 .1 .0 .now) back, (fix-len (a .1 .1 .1 .1 .0 .ptr) (a .1 .1 .1 .1 .0 .name) (p .2 .0) (a .1 .1 .1 .1 .0 .now) last, tt))))),
-                told (r .5 .1 .0 ∙ ap (λ (x : Header). reportReturned x (a .1 .0 .now) (a .1 .1 .0 .now) (length (a .1 .1 .1 .0 .now))) (h .5)) λ e. (
+                told (ap returnedReport (r .5 .0) ∙ ap (λ (x : Header). reportReturned x (a .1 .0 .now) (a .1 .1 .0 .now) (length (a .1 .1 .1 .0 .now))) (h .5)) λ e. (
                   p .5 .0 ∙ ap (λ (t : Returned). t .refusal) e,
                   (
                     p .5 .1 ∙ ap (λ (t : Returned). atFront (ten t) (a .1 .1 .1 .1 .0 .now)) e,
-                    r .5 .1 .1 ∙ ap (λ (x : Header). bufferAfter x (a .1 .0 .now) (a .1 .1 .0 .now) (a .1 .1 .1 .0 .now)) (h .5),
+                    r .5 .1 ∙ ap (λ (x : Header). bufferAfter x (a .1 .0 .now) (a .1 .1 .0 .now) (a .1 .1 .1 .0 .now)) (h .5),
                   ),
                 ),
               ),

@@ -5,7 +5,7 @@ use borrow.Author.Tests.{not-true, not-false, eq-eqb, ne-eqb}
 use Rattle.reading.specs.Records.{memberFault}
 use Rattle.reading.proofs.Validity.{valid}
 use Rattle.members.specs.declared.finding.MemberAnswer.the-variants.{Judged, Refused}
-use Rattle.members.specs.Finding.{finding, knowledge, answerBy, found, refused, memberReturned}
+use Rattle.members.specs.Finding.{finding, knowledge, answerBy}
 use Rattle.members.proofs.Assembly.{level-sized, published-sized}
 use borrow.Author.Needs.{needs}
 use Rattle.members.proofs.finding.judge_member.Statement.{statement}
@@ -15,20 +15,20 @@ known-requires : tie.Need-known-requires
 known-requires c κs = search needs
 
 returns : tie.Need-returns
-unfolding answerBy memberReturned
+unfolding answerBy
 returns c =
     let e : knowledge (c .before .before .args .k) ≡ false = sym (c .before .known .ensures) ∙ not-true _ (c .if1 .taken) in
-    (simp e, simp e)
+    simp e
 
 member-fault-requires : tie.Need-member-fault-requires
 member-fault-requires c κs = search needs
 
 returns-2 : tie.Need-returns-2
-unfolding answerBy memberReturned
+unfolding answerBy
 returns-2 c =
     let e : knowledge (c .before .before .before .before .args .k) ≡ true = sym (c .before .before .before .known .ensures) ∙ not-false _ (c .before .before .if1 .left) in
     let g : eqb (memberFault (c .before .before .before .before .args .m)) 0 ≡ false = rw (← c .before .member-fault .ensures) (ne-eqb _ _ (c .if2 .taken)) in
-    (simp (e, g) (ap Refused (c .before .member-fault .ensures)), simp (e, g) (ap refused (c .before .member-fault .ensures)))
+    simp (e, g) (ap Refused (c .before .member-fault .ensures))
 
 published-requires : tie.Need-published-requires
 published-requires c κs = search needs
@@ -41,13 +41,13 @@ judge-requires c κs =
     (rw (c .published .ensures) published-sized, l .0, l .1, valid (a .m) (sym (c .before .before .member-fault .ensures) ∙ c .before .if2 .left))
 
 returns-3 : tie.Need-returns-3
-unfolding answerBy memberReturned
+unfolding answerBy
 returns-3 c =
     let a = c .before .before .before .before .before .before .args in
     let e : knowledge (a .k) ≡ true = sym (c .before .before .before .before .before .known .ensures) ∙ not-false _ (c .before .before .before .before .if1 .left) in
     let g : eqb (memberFault (a .m)) 0 ≡ true = rw (← c .before .before .before .member-fault .ensures) (eq-eqb _ _ (c .before .before .if2 .left)) in
     let f : c .judge .result ≡ finding (a .k) (a .met) (a .m) = rw (← c .before .published .ensures) (c .judge .ensures) in
-    (simp (e, g) (ap Judged f), simp (e, g) (ap found f))
+    simp (e, g) (ap Judged f)
 
 pub judge-member-spec : {M : Type 1} → statement M
 judge-member-spec =

@@ -28,7 +28,7 @@ returns c =
     let g = c .before .before .before .before .before .f .given in
     let l = c .before .before .put-finding in (
       l .ensures .0,
-      member-line-of (l .last .0) (a .out .now) (a .at) (a .m .number) (g .0 .0) (finding (a .k) (a .met) (a .m)) (l .ensures .1) (finding-same (a .k) (a .met) (a .m) (p .knowledge-level) (p .good) (j .result) (g .0 .0) (j .ensures .0) (g .1)),
+      member-line-of (l .last .0) (a .out .now) (a .at) (a .m .number) (g .0 .0) (finding (a .k) (a .met) (a .m)) (l .ensures .1) (finding-same (a .k) (a .met) (a .m) (p .knowledge-level) (p .good) (j .result) (g .0 .0) (j .ensures) (g .1)),
     )
 
 returns-2 : tie.Need-returns-2
@@ -36,7 +36,7 @@ returns-2 c =
     let a = c .before .before .before .before .args in
     let p = c .before .before .before .before .pre .0 in
     let j = c .before .before .judge-member in
-    absurd (not-refused (a .k) (a .met) (a .m) (p .knowledge-level) (p .good) (j .result) _ (j .ensures .0) (c .enum-told .given .1))
+    absurd (not-refused (a .k) (a .met) (a .m) (p .knowledge-level) (p .good) (j .result) _ (j .ensures) (c .enum-told .given .1))
 
 pub put-member-spec : {M : Type 1} → statement M
 put-member-spec =

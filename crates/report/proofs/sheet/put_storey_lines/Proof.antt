@@ -136,7 +136,7 @@ answers κs qs a good pre bs = (
                     (fix-len (a .0 .ptr) (a .0 .name) (h .2 .0) (a .0 .now) (last ∙ back), (tt, (tt, (tt, (refl, tt))))),
                     (
                       omega (arith, h .5 .0, g .5 .0),
-                      storey-done (a .1 .1 .0) (a .1 .1 .1 .0) (a .1 .1 .1 .1 .0 .now) (pre .0) (a .0 .now) (g .2 .0) (h .2 .0) (a .1 .0) (g .1) (w .1) (f .1) (storey-found (a .1 .1 .0) (a .1 .1 .1 .0) (a .1 .1 .1 .1 .0 .now) (pre .0) (r .1 .answer) (f .1) (r .5 .0) (f .5)) (w .5) (g .5 .1) (g .5 .0) (h .5 .1),
+                      storey-done (a .1 .1 .0) (a .1 .1 .1 .0) (a .1 .1 .1 .1 .0 .now) (pre .0) (a .0 .now) (g .2 .0) (h .2 .0) (a .1 .0) (g .1) (w .1) (f .1) (storey-found (a .1 .1 .0) (a .1 .1 .1 .0) (a .1 .1 .1 .1 .0 .now) (pre .0) (r .1 .answer) (f .1) (r .5) (f .5)) (w .5) (g .5 .1) (g .5 .0) (h .5 .1),
                     ),
                   ),
                 ),

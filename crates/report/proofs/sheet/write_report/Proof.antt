@@ -4,7 +4,7 @@ use lib.ListN.{length}
 use mathlib.Core.List.{[], _∷_}
 use borrow.Author.Tests.{eqb-true, eqb-false, not-true, not-false}
 use Rattle.report.proofs.Survey.{storeys-most, members-most}
-use Rattle.report.proofs.Called.{few, fault-is, answer-refused, returned-refused, buffer-refused, building-clear, room-enough, answer-written, returned-written, buffer-written}
+use Rattle.report.proofs.Called.{few, fault-is, answer-refused, buffer-refused, building-clear, room-enough, answer-written, buffer-written}
 use mathlib.Core.Path.{refl, _∙_}
 use contract.Lifetimes.{Lfts, Shares}
 use contract.Running.{tablesOf}
@@ -142,7 +142,7 @@ answers : Answers Says.write-report K 2 Code.function body
 answers κs qs a good pre bs = (
   λ _. tt,
   λ r. (
-    λ _. few (a .0) (a .1 .0 .now) (a .1 .1 .0 .now) (r .1 .answer) (r .5 .0),
+    λ _. few (a .0) (a .1 .0 .now) (a .1 .1 .0 .now) (r .1 .answer) (r .5),
     λ f. (
       tt,
       (
@@ -150,10 +150,10 @@ answers κs qs a good pre bs = (
           λ _. tt,
           λ z. (
             (tt, (refl, (refl, (refl, tt)))),
-            (answer-refused (a .0) (a .1 .0 .now) (a .1 .1 .0 .now) (a .1 .1 .1 .0 .now) (f .1) (fault-is (a .0) (a .1 .0 .now) (a .1 .1 .0 .now) (r .1 .answer) (r .5 .0) (f .1) (length (a .1 .1 .1 .0 .now)) (f .5)) ne (z .1 .answer) (z .5), (returned-refused (a .0) (a .1 .0 .now) (a .1 .1 .0 .now) (a .1 .1 .1 .0 .now) (f .1) (fault-is (a .0) (a .1 .0 .now) (a .1 .1 .0 .now) (r .1 .answer) (r .5 .0) (f .1) (length (a .1 .1 .1 .0 .now)) (f .5)) ne (z .1 .answer) (z .5), buffer-refused (a .0) (a .1 .0 .now) (a .1 .1 .0 .now) (a .1 .1 .1 .0 .now) (f .1) (fault-is (a .0) (a .1 .0 .now) (a .1 .1 .0 .now) (r .1 .answer) (r .5 .0) (f .1) (length (a .1 .1 .1 .0 .now)) (f .5)) ne)),
+            (answer-refused (a .0) (a .1 .0 .now) (a .1 .1 .0 .now) (a .1 .1 .1 .0 .now) (f .1) (fault-is (a .0) (a .1 .0 .now) (a .1 .1 .0 .now) (r .1 .answer) (r .5) (f .1) (length (a .1 .1 .1 .0 .now)) (f .5)) ne (z .1 .answer) (z .5), buffer-refused (a .0) (a .1 .0 .now) (a .1 .1 .0 .now) (a .1 .1 .1 .0 .now) (f .1) (fault-is (a .0) (a .1 .0 .now) (a .1 .1 .0 .now) (r .1 .answer) (r .5) (f .1) (length (a .1 .1 .1 .0 .now)) (f .5)) ne),
           ),
         ),
-        λ miss. told (eqb-true (f .1) 0 (not-false _ miss)) λ y. told (building-clear (a .0) (a .1 .0 .now) (a .1 .1 .0 .now) (a .1 .1 .1 .0 .now) (f .1) (fault-is (a .0) (a .1 .0 .now) (a .1 .1 .0 .now) (r .1 .answer) (r .5 .0) (f .1) (length (a .1 .1 .1 .0 .now)) (f .5)) y) λ none. told (room-enough (a .0) (a .1 .0 .now) (a .1 .1 .0 .now) (a .1 .1 .1 .0 .now) (f .1) (fault-is (a .0) (a .1 .0 .now) (a .1 .1 .0 .now) (r .1 .answer) (r .5 .0) (f .1) (length (a .1 .1 .1 .0 .now)) (f .5)) y) λ room. λ γ. (
+        λ miss. told (eqb-true (f .1) 0 (not-false _ miss)) λ y. told (building-clear (a .0) (a .1 .0 .now) (a .1 .1 .0 .now) (a .1 .1 .1 .0 .now) (f .1) (fault-is (a .0) (a .1 .0 .now) (a .1 .1 .0 .now) (r .1 .answer) (r .5) (f .1) (length (a .1 .1 .1 .0 .now)) (f .5)) y) λ none. told (room-enough (a .0) (a .1 .0 .now) (a .1 .1 .0 .now) (a .1 .1 .1 .0 .now) (f .1) (fault-is (a .0) (a .1 .0 .now) (a .1 .1 .0 .now) (r .1 .answer) (r .5) (f .1) (length (a .1 .1 .1 .0 .now)) (f .5)) y) λ room. λ γ. (
           refl,
           (
             λ _. (none, omega arith),
@@ -172,11 +172,8 @@ answers κs qs a good pre bs = (
                         λ z. (
                           (tt, (refl, (refl, (fix-len (a .1 .1 .1 .0 .ptr) (a .1 .1 .1 .0 .name) (l .2 .0) (a .1 .1 .1 .0 .now) (last ∙ back), tt)))),
                           (
-                            answer-written (a .0) (a .1 .0 .now) (a .1 .1 .0 .now) (a .1 .1 .1 .0 .now) (f .1) (fault-is (a .0) (a .1 .0 .now) (a .1 .1 .0 .now) (r .1 .answer) (r .5 .0) (f .1) (length (a .1 .1 .1 .0 .now)) (f .5)) y (z .1 .answer) (g .1 + 26) (z .5) (omega (arith, g .5 .0)),
-                            (
-                              returned-written (a .0) (a .1 .0 .now) (a .1 .1 .0 .now) (a .1 .1 .1 .0 .now) (f .1) (fault-is (a .0) (a .1 .0 .now) (a .1 .1 .0 .now) (r .1 .answer) (r .5 .0) (f .1) (length (a .1 .1 .1 .0 .now)) (f .5)) y (z .1 .answer) (g .1 + 26) (z .5) (omega (arith, g .5 .0)),
-                              buffer-written (a .0) (a .1 .0 .now) (a .1 .1 .0 .now) (a .1 .1 .1 .0 .now) (f .1) (fault-is (a .0) (a .1 .0 .now) (a .1 .1 .0 .now) (r .1 .answer) (r .5 .0) (f .1) (length (a .1 .1 .1 .0 .now)) (f .5)) y (r .1 .answer) (r .5 .0) (g .2 .0) (l .2 .0) (g .1) (g .5 .1) (g .5 .0) (l .5),
-                            ),
+                            answer-written (a .0) (a .1 .0 .now) (a .1 .1 .0 .now) (a .1 .1 .1 .0 .now) (f .1) (fault-is (a .0) (a .1 .0 .now) (a .1 .1 .0 .now) (r .1 .answer) (r .5) (f .1) (length (a .1 .1 .1 .0 .now)) (f .5)) y (z .1 .answer) (g .1 + 26) (z .5) (omega (arith, g .5 .0)),
+                            buffer-written (a .0) (a .1 .0 .now) (a .1 .1 .0 .now) (a .1 .1 .1 .0 .now) (f .1) (fault-is (a .0) (a .1 .0 .now) (a .1 .1 .0 .now) (r .1 .answer) (r .5) (f .1) (length (a .1 .1 .1 .0 .now)) (f .5)) y (r .1 .answer) (r .5) (g .2 .0) (l .2 .0) (g .1) (g .5 .1) (g .5 .0) (l .5),
                           ),
                         ),
                       ),

@@ -122,8 +122,7 @@ answers κs qs a good pre bs = (
       (
         λ ne. (
           λ _. tt,
-          λ x. told (refused-at-once (a .0) (a .1 .0 .now) (a .1 .1 .0 .now) (t .1) (r .1) (t .5) (r .5) (x .1 .answer) (x .5) (eqb-false (r .1) 0 (not-true (eqb (r .1) 0) ne))) λ d.
-              ((tt, (refl, (refl, tt))), (d .answers, d .returned)),
+          λ x. ((tt, (refl, (refl, tt))), refused-at-once (a .0) (a .1 .0 .now) (a .1 .1 .0 .now) (t .1) (r .1) (t .5) (r .5) (x .1 .answer) (x .5) (eqb-false (r .1) 0 (not-true (eqb (r .1) 0) ne))),
         ),
         λ no. told (eqb-true (r .1) 0 (not-false (eqb (r .1) 0) no)) λ z. (
           λ _. counted (a .0) (a .1 .0 .now) (a .1 .1 .0 .now) (t .1) (r .1) (t .5) (r .5) z,
@@ -132,8 +131,7 @@ answers κs qs a good pre bs = (
             (
               λ ne. (
                 λ _. tt,
-                λ x. told (refused-rows (a .0) (a .1 .0 .now) (a .1 .1 .0 .now) (t .1) (r .1) (t .5) (r .5) z (f .1) (f .5) (x .1 .answer) (x .5) (eqb-false (f .1) 0 (not-true (eqb (f .1) 0) ne))) λ d.
-                    ((tt, (refl, (refl, tt))), (d .answers, d .returned)),
+                λ x. ((tt, (refl, (refl, tt))), refused-rows (a .0) (a .1 .0 .now) (a .1 .1 .0 .now) (t .1) (r .1) (t .5) (r .5) z (f .1) (f .5) (x .1 .answer) (x .5) (eqb-false (f .1) 0 (not-true (eqb (f .1) 0) ne))),
               ),
               λ no. told (eqb-true (f .1) 0 (not-false (eqb (f .1) 0) no)) λ y. (
                 λ _. tt,
@@ -141,8 +139,7 @@ answers κs qs a good pre bs = (
                   λ _. good-rows (a .0) (a .1 .0 .now) (a .1 .1 .0 .now) (t .1) (r .1) (t .5) (r .5) z (f .1) (f .5) y (k .1) (k .5),
                   λ v. (
                     λ _. tt,
-                    λ x. told (judged-rows (a .0) (a .1 .0 .now) (a .1 .1 .0 .now) (t .1) (r .1) (t .5) (r .5) z (f .1) (f .5) y (k .1) (k .5) (v .1) (x .1 .answer) (v .5) (x .5)) λ d.
-                        ((tt, (refl, (refl, tt))), (d .answers, d .returned)),
+                    λ x. ((tt, (refl, (refl, tt))), judged-rows (a .0) (a .1 .0 .now) (a .1 .1 .0 .now) (t .1) (r .1) (t .5) (r .5) z (f .1) (f .5) y (k .1) (k .5) (v .1) (x .1 .answer) (v .5) (x .5)),
                   ),
                 ),
               ),

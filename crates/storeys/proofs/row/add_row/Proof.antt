@@ -11,16 +11,16 @@ enum-known-f : tie.Need-enum-known-f
 enum-known-f c = search needs
 
 add-finding-requires : tie.Need-add-finding-requires
-add-finding-requires c κs = room-for _ _ _ _ _ (c .before .before .before .before .pre) (finding-same (c .before .before .before .before .args .k) (c .before .before .before .before .args .met) (c .before .before .before .before .args .m) (c .before .before .before .before .pre .knowledge-level) (c .before .before .before .before .pre .good) (c .before .before .before .judge-member .result) (c .before .f .given .0 .0) (c .before .before .before .judge-member .ensures .0) (c .before .f .given .1))
+add-finding-requires c κs = room-for _ _ _ _ _ (c .before .before .before .before .pre) (finding-same (c .before .before .before .before .args .k) (c .before .before .before .before .args .met) (c .before .before .before .before .args .m) (c .before .before .before .before .pre .knowledge-level) (c .before .before .before .before .pre .good) (c .before .before .before .judge-member .result) (c .before .f .given .0 .0) (c .before .before .before .judge-member .ensures) (c .before .f .given .1))
 
 enum-told : tie.Need-enum-told
 enum-told c = search needs
 
 returns : tie.Need-returns
-returns c = c .add-finding .ensures ∙ added-same _ _ _ _ _ (finding-same (c .before .before .before .before .before .args .k) (c .before .before .before .before .before .args .met) (c .before .before .before .before .before .args .m) (c .before .before .before .before .before .pre .knowledge-level) (c .before .before .before .before .before .pre .good) (c .before .before .before .before .judge-member .result) (c .before .before .f .given .0 .0) (c .before .before .before .before .judge-member .ensures .0) (c .before .before .f .given .1))
+returns c = c .add-finding .ensures ∙ added-same _ _ _ _ _ (finding-same (c .before .before .before .before .before .args .k) (c .before .before .before .before .before .args .met) (c .before .before .before .before .before .args .m) (c .before .before .before .before .before .pre .knowledge-level) (c .before .before .before .before .before .pre .good) (c .before .before .before .before .judge-member .result) (c .before .before .f .given .0 .0) (c .before .before .before .before .judge-member .ensures) (c .before .before .f .given .1))
 
 returns-2 : tie.Need-returns-2
-returns-2 c = absurd (not-refused (c .before .before .before .args .k) (c .before .before .before .args .met) (c .before .before .before .args .m) (c .before .before .before .pre .knowledge-level) (c .before .before .before .pre .good) (c .before .before .judge-member .result) _ (c .before .before .judge-member .ensures .0) (c .enum-told .given .1))
+returns-2 c = absurd (not-refused (c .before .before .before .args .k) (c .before .before .before .args .met) (c .before .before .before .args .m) (c .before .before .before .pre .knowledge-level) (c .before .before .before .pre .good) (c .before .before .judge-member .result) _ (c .before .before .judge-member .ensures) (c .enum-told .given .1))
 
 pub add-row-spec : {M : Type 1} → statement M
 add-row-spec =
