@@ -1,5 +1,5 @@
 //! Records by the names of their fields: their numbers, the rows that a file is read into, and how a refusal is told.
-use llunareth::{Header, LoadCase, Member, Refusal, Storey};
+use llunareth::{Header, LoadCase, Member, Refusal, Storey, ZERO_FORCE};
 
 // Each record from its numbers in the order of its line (docs/FORMAT.md).
 
@@ -43,32 +43,22 @@ fn a_member() {
     assert_eq!((Member::from(places()), <[u64; 26]>::from(member(places()))), (member(places()), places()));
 }
 
-// A survey in which no two fields of a record hold the same number. Of the three marks, 0 or 1, each is 1 in a member of its own.
-
-const HEADER: [u64; 6] = [90, 9_001, 3, 1_202, 803, 2];
-const STOREYS: [[u64; 3]; 2] = [[71, 5_002, 1], [82, 6_003, 2]];
-
-/// Member 0, 1 or 2.
-fn member_numbers(i: usize) -> [u64; 26] {
-    std::array::from_fn(|j| match j {
-        12..=14 => u64::from(j == 12 + i),
-        15 => 91 + i as u64,
-        16 => 2 + i as u64,
-        17 | 18 => llunareth::ZERO_FORCE + 100 * (i + 1) as u64 - j as u64,
-        _ => (1_000 * (i + 1) - j) as u64,
-    })
+/// The sample in which no two fields of a record hold the same number.
+fn sample() -> Vec<u8> {
+    std::fs::read("../../samples/every-field-apart.survey").expect("a sample")
 }
 
-fn line(tag: char, numbers: &[u64]) -> String {
-    let force = |j| tag == 'M' && (j == 17 || j == 18);
-    let field = |(j, &n): (usize, &u64)| format!("{:>8}", if force(j) { n - llunareth::ZERO_FORCE } else { n });
-    format!("{tag}{}\n", numbers.iter().enumerate().map(field).collect::<String>())
-}
-
-fn file() -> String {
-    let members = [0, 1, 2].map(|i| line('M', &member_numbers(i)));
-    let [first, second] = STOREYS.map(|s| line('S', &s));
-    [line('B', &HEADER), first, members[0].clone(), second, members[1..].concat()].concat()
+/// The stored numbers of the lines with a tag, field by field: eight columns each, after the tag.
+fn stored<const N: usize>(tag: u8) -> Vec<[u64; N]> {
+    let is_force = |j| tag == b'M' && (j == 17 || j == 18);
+    let field = |line: &[u8], j: usize| {
+        let text = std::str::from_utf8(&line[1 + 8 * j..9 + 8 * j]).expect("text");
+        let zero = if is_force(j) { ZERO_FORCE } else { 0 };
+        zero.checked_add_signed(text.trim().parse().expect("a number")).expect("a stored number")
+    };
+    let file = sample();
+    let lines = file.split(|&byte| byte == b'\n').filter(|line| line.first() == Some(&tag));
+    lines.map(|line| std::array::from_fn(|j| field(line, j))).collect()
 }
 
 /// The 8-byte words of rows, one after another in memory.
@@ -77,23 +67,38 @@ fn words<T>(rows: &[T]) -> &[u64] {
     unsafe { std::slice::from_raw_parts(rows.as_ptr().cast(), std::mem::size_of_val(rows) / 8) }
 }
 
-#[test]
-fn each_field_is_read_into_its_own_place() {
-    let (mut storeys, mut members) = ([Storey::default(); 2], [Member::default(); 3]);
-    let survey = llunareth::read(file().as_bytes(), &mut storeys, &mut members).expect("accepted");
-    assert_eq!(survey.header, header(HEADER));
-    assert_eq!((survey.storeys, words(survey.storeys)), (&STOREYS.map(storey)[..], STOREYS.as_flattened()));
-    let numbers = [0, 1, 2].map(member_numbers);
-    assert_eq!((survey.members, words(survey.members)), (&numbers.map(member)[..], numbers.as_flattened()));
+/// Panics unless every two fields differ in some record.
+fn assert_apart<const N: usize>(records: &[[u64; N]]) {
+    for j in 0..N {
+        for i in 0..j {
+            assert!(records.iter().any(|numbers| numbers[i] != numbers[j]), "fields {} and {}", i + 1, j + 1);
+        }
+    }
 }
 
-/// `determine` lends no rows to the caller, so it tells what the rows handed in by name must give.
+#[test]
+fn each_field_is_read_into_its_own_place() {
+    let (headers, storeys, members) = (stored(b'B'), stored(b'S'), stored(b'M'));
+    assert_apart(&headers);
+    assert_apart(&storeys);
+    assert_apart(&members);
+    let (mut storey_rows, mut member_rows) = ([Storey::default(); 2], [Member::default(); 3]);
+    let survey = llunareth::read(&sample(), &mut storey_rows, &mut member_rows).expect("accepted");
+    assert_eq!(vec![survey.header], headers.into_iter().map(header).collect::<Vec<_>>());
+    assert_eq!(words(survey.storeys), storeys.as_flattened());
+    assert_eq!(words(survey.members), members.as_flattened());
+    assert_eq!(survey.storeys, storeys.into_iter().map(storey).collect::<Vec<_>>());
+    assert_eq!(survey.members, members.into_iter().map(member).collect::<Vec<_>>());
+}
+
+/// `determine` takes no rows from its caller, so it tells what rows filled in by name must give.
 #[test]
 fn rows_by_name_give_the_sheet_of_their_file() {
+    let storeys: Vec<Storey> = stored(b'S').into_iter().map(storey).collect();
+    let members: Vec<Member> = stored(b'M').into_iter().map(member).collect();
     let (mut sheet, mut text) = ([0; 432], [0; 432]);
-    let rows = [0, 1, 2].map(|i| member(member_numbers(i)));
-    let written = llunareth::report(&header(HEADER), &STOREYS.map(storey), &rows, &mut sheet).expect("accepted");
-    assert_eq!(written, llunareth::determine(file().as_bytes(), &mut text));
+    let written = llunareth::report(&header(stored(b'B')[0]), &storeys, &members, &mut sheet).expect("accepted");
+    assert_eq!(written, llunareth::determine(&sample(), &mut text));
 }
 
 #[test]
