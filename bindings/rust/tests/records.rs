@@ -11,7 +11,6 @@ fn storey([number, shear, count]: [u64; 3]) -> Storey {
     Storey { number, shear, count }
 }
 
-#[rustfmt::skip]
 fn member(numbers: [u64; 26]) -> Member {
     let [
         number, long, short, area, fcm, fctm, fyw, depth, height, spacing, core, hoops, hooks, zone, strengthened, factor, damage, nd,
