@@ -6,8 +6,8 @@ ghost use Rattle.reading.specs.Answer.{tells, told, storeysAfter, membersAfter}
 ghost use Rattle.exports.specs.Words.{words, refusalTold};
 ghost use Rattle.report.specs.Line.{atFront};
 use crate::words::put_ten;
-use reading::records::Member;
-use reading::records::Storey;
+use records::Member;
+use records::Storey;
 use reading::survey::ReadAnswer;
 use reading::survey::Reading;
 

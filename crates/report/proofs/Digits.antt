@@ -9,9 +9,9 @@ use lib.Dec.{ltb, eqb}
 use lib.ListN.{length, set, replicate, length-replicate}
 use lib.Seq.{set-set, set-comm}
 use borrow.Author.Tests.{lt-ltb, le-ltb, ltb-true, ltb-false}
-use Rattle.reading.specs.First.{pick}
-use Rattle.reading.specs.Spelling.{column, spelled}
-use Rattle.reading.proofs.Typed.{length-spelled}
+use Rattle.records.specs.First.{pick}
+use Rattle.format.specs.Spelling.{column, spelled}
+use Rattle.format.proofs.Typed.{length-spelled}
 use Rattle.report.specs.Line.{stamped, digitsOver}
 use Rattle.report.proofs.Stamps.{stamped-both}
 

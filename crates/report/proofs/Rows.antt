@@ -8,11 +8,11 @@ use mathlib.Core.Path.{_≡_, refl, sym, _∙_}
 use lib.ListN.{length, drop, length-append, drop-of-length-le}
 use lib.Seq.{drop-cons}
 use borrow.Author.Tests.{eq-eqb}
-use Rattle.reading.specs.First.{pick}
-use Rattle.reading.specs.Records.{memberFault, storeyFault}
-use Rattle.reading.specs.declared.records.Storey.{Storey}
-use Rattle.reading.specs.declared.records.Member.{Member}
-use Rattle.reading.proofs.Firsts.{pick-clear}
+use Rattle.records.specs.First.{pick}
+use Rattle.records.specs.Records.{memberFault, storeyFault}
+use Rattle.records.specs.declared.Storey.{Storey}
+use Rattle.records.specs.declared.Member.{Member}
+use Rattle.records.proofs.Firsts.{pick-clear}
 use Rattle.members.specs.Finding.{finding, knowledge}
 use Rattle.members.specs.declared.finding.Finding.{Finding}
 use Rattle.storeys.specs.declared.StoreyFinding.{StoreyFinding}

@@ -8,8 +8,8 @@ use mathlib.Core.Path.{_≡_, refl, ap, sym, _∙_}
 use lib.Dec.{leb}
 use lib.ListN.{length, drop, set, getD, length-set, length-append, drop-of-length-le}
 use lib.Seq.{drop-cons, set-append-seam, append-snoc}
-use Rattle.reading.specs.Spelling.{spelled}
-use Rattle.reading.proofs.Typed.{length-spelled}
+use Rattle.format.specs.Spelling.{spelled}
+use Rattle.format.proofs.Typed.{length-spelled}
 use borrow.Author.Tests.{le-leb, lt-leb}
 use Rattle.report.specs.Line.{printedNumbers, line, stamped, atFront, putLength}
 

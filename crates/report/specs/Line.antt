@@ -3,8 +3,8 @@ use Prim.Native.Nat.{ℕ, zero, suc, _+_, _/_, _%_}
 use mathlib.Core.List.{List, [], _∷_, _++_}
 use lib.Dec.{leb, ltb}
 use lib.ListN.{length, drop, set}
-use Rattle.reading.specs.First.{pick}
-use Rattle.reading.specs.Spelling.{spelled}
+use Rattle.records.specs.First.{pick}
+use Rattle.format.specs.Spelling.{spelled}
 
 -- numbers in fields of 12 columns, one after another
 unfoldable pub printedNumbers : List ℕ → List ℕ

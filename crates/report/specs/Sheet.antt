@@ -6,11 +6,11 @@ use mathlib.Core.List.{List, [], _∷_, _++_}
 use mathlib.Core.Path.{_≡_}
 use lib.Dec.{leb, eqb}
 use lib.ListN.{length, drop}
-use Rattle.reading.specs.First.{pick, inOrder}
-use Rattle.reading.specs.Records.{memberFault}
-use Rattle.reading.specs.declared.records.Header.{Header}
-use Rattle.reading.specs.declared.records.Storey.{Storey}
-use Rattle.reading.specs.declared.records.Member.{Member}
+use Rattle.records.specs.First.{pick, inOrder}
+use Rattle.records.specs.Records.{memberFault}
+use Rattle.records.specs.declared.Header.{Header}
+use Rattle.records.specs.declared.Storey.{Storey}
+use Rattle.records.specs.declared.Member.{Member}
 use Rattle.members.specs.Class.{code}
 use Rattle.members.specs.Finding.{finding, flag, knowledge, Returned, refused}
 use Rattle.members.specs.declared.finding.Finding.{Finding}

@@ -2,7 +2,7 @@
 ghost use mathlib.Core.Path.{_≡_};
 ghost use Prim.Native.Nat.{_+_, _*_, _≤_};
 ghost use lib.ListN.{length};
-ghost use Rattle.reading.specs.Spelling.{spelled};
+ghost use Rattle.format.specs.Spelling.{spelled};
 ghost use Rattle.report.specs.Line.{line, stamped, digitsOver};
 
 // Bytes as they stand.

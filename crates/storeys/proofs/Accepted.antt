@@ -8,20 +8,19 @@ use mathlib.Core.Path.{_≡_, refl, sym, ap, _∙_}
 use lib.Dec.{eqb}
 use lib.ListN.{length, drop, length-take, length-drop}
 use borrow.Author.Tests.{eqb-true, eq-eqb, leb-true}
-use Rattle.reading.specs.First.{pick, every, first}
-use Rattle.reading.specs.Records.{inRange, headerValues, storeyValues, headerFault, storeyFault, memberFault}
-use Rattle.reading.specs.Survey.{repeated}
-use Rattle.reading.specs.declared.records.Header.{Header}
-use Rattle.reading.specs.declared.records.Storey.{Storey}
-use Rattle.reading.specs.declared.records.Member.{Member}
-use Rattle.reading.specs.declared.records.Tag.the-variants.{B, S}
-use Rattle.reading.proofs.Below.{and-left, every-at}
-use Rattle.reading.proofs.Validity.{clear}
+use Rattle.records.specs.First.{pick, every, first}
+use Rattle.records.specs.Records.{inRange, headerValues, storeyValues, headerFault, storeyFault, memberFault, repeated}
+use Rattle.records.specs.declared.Header.{Header}
+use Rattle.records.specs.declared.Storey.{Storey}
+use Rattle.records.specs.declared.Member.{Member}
+use Rattle.records.specs.declared.Tag.the-variants.{B, S}
+use Rattle.records.proofs.Below.{and-left, every-at}
+use Rattle.records.proofs.Validity.{clear}
 use Rattle.members.specs.Finding.{knowledge, answerBy}
 use Rattle.storeys.specs.declared.BuildingFinding.{BuildingFinding}
 use Rattle.storeys.specs.declared.BuildingAnswer.{BuildingAnswer}
 use Rattle.storeys.specs.declared.BuildingAnswer.the-variants.{Judged, Refused}
-use Rattle.reading.specs.Totals.{total}
+use Rattle.records.specs.Totals.{total}
 use Rattle.storeys.specs.Storey.{Rules, meetsWallShare, over, overShear, storeyRisky, storeyFinding, countFault, knowledgeFault, shearFault, noMember, memberIn, rowFault, memberRowsFault, storeyCallFault, storeyAnswerBy}
 use Rattle.storeys.specs.Building.{storeyIn, membersBefore, membersOf, countsFault, storeyRowsFault, shearFaultAt, buildingFault, buildingRisky, buildingFinding, buildingAnswerBy, placeIn, returnedBuilding}
 use Rattle.storeys.specs.Demand3.{Survey, knowledgeOf, StoreyMembers, storeyMembersAt, storeysMembers, Accepted, overIn, riskyIn, buildingRiskyIn}

@@ -8,9 +8,9 @@ use mathlib.Core.Logic.{⊎-elim}
 use mathlib.Core.Path.{_≡_, refl}
 use lib.Dec.{eqb}
 use lib.ListN.{length}
-use Rattle.reading.specs.declared.records.Member.{Member}
+use Rattle.records.specs.declared.Member.{Member}
 use Rattle.members.specs.Finding.{flag}
-use Rattle.reading.specs.Totals.{total}
+use Rattle.records.specs.Totals.{total}
 use Rattle.storeys.specs.Storey.{damaged, riskyByDamage}
 use Rattle.storeys.specs.Demand3.{MemberPairs}
 use Rattle.storeys.specs.Pairing.{EveryPair}

@@ -6,14 +6,13 @@ use mathlib.Core.Bool.{Bool, true, _||_, or-false, or-assoc}
 use mathlib.Core.List.{List, [], _∷_, _++_}
 use mathlib.Core.Path.{_≡_, refl, sym, _∙_}
 use lib.ListN.{length}
-use Rattle.reading.specs.First.{any}
-use Rattle.reading.specs.Records.{memberFault}
-use Rattle.reading.specs.Survey.{listed}
-use Rattle.reading.proofs.Validity.{valid}
+use Rattle.records.specs.First.{any}
+use Rattle.records.specs.Records.{memberFault}
+use Rattle.records.specs.Totals.{listed, some}
+use Rattle.records.proofs.Validity.{valid}
 use Rattle.members.specs.Finding.{answerBy}
 use Rattle.members.proofs.Order.{published-ordered}
 use Rattle.storeys.specs.declared.BuildingAnswer.{BuildingAnswer}
-use Rattle.reading.specs.Totals.{some}
 use Rattle.storeys.specs.Storey.{Rules, publishedRules, orderly, meetsWallShare, over, storeyRisky, storeyAnswerBy}
 use Rattle.storeys.specs.Building.{riskyAt, someRisky, buildingRisky, tiltAllowed, tilted}
 use Rattle.storeys.specs.Pairing.{EveryPair}

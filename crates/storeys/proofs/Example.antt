@@ -5,10 +5,10 @@ use native.Mathlib.Omega.{arith}
 use mathlib.Core.Bool.{true, false}
 use mathlib.Core.List.{[], _∷_}
 use mathlib.Core.Path.{_≡_, refl}
-use Rattle.reading.specs.First.{every, any, first}
-use Rattle.reading.specs.Records.{zeroForce, headerFault, storeyFault, memberFault}
-use Rattle.reading.specs.Survey.{listed}
-use Rattle.reading.specs.declared.records.Member.{Member}
+use Rattle.records.specs.First.{every, any, first}
+use Rattle.records.specs.Records.{zeroForce, headerFault, storeyFault, memberFault}
+use Rattle.records.specs.Totals.{listed, total, some}
+use Rattle.records.specs.declared.Member.{Member}
 use Rattle.members.specs.declared.class.Class.the-variants.{ColumnA, ColumnC}
 use Rattle.members.specs.Class.{isWall, detailed, columnClass, wallClass, classOf}
 use Rattle.members.specs.Tables.{places, moments, rotations}
@@ -16,7 +16,6 @@ use Rattle.members.specs.Limits.{interp, blend, columnA, columnB, columnC, wall
 use Rattle.members.specs.Finding.{axial, moment, stress, hoops, mLimit, rotationLimit, mDropped, isOver, findingBy, answerBy}
 use Rattle.storeys.specs.declared.BuildingAnswer.{BuildingAnswer}
 use Rattle.storeys.specs.declared.BuildingAnswer.the-variants.{Judged}
-use Rattle.reading.specs.Totals.{total, some}
 use Rattle.storeys.specs.Storey.{publishedRules, meetsWallShare, axialTotal, overShear, someOver, damaged, exceedsShare, riskyByDamage, storeyRisky, storeyFinding, noMember, rowFault, memberRowsFault, storeyCallFault, storeyAnswerBy}
 use Rattle.storeys.specs.Building.{membersBefore, membersOf, riskyAt, countsFault, storeyRowsFault, shearFaultAt, buildingFault, tilted, someRisky, buildingRisky, buildingFinding, buildingAnswerBy, named}
 use Rattle.storeys.specs.Pairing.{none, pair, EveryPair}

@@ -4,9 +4,9 @@ use native.Mathlib.Omega.{arith}
 use mathlib.Core.Bool.{Bool, true, false, _&&_}
 use mathlib.Core.Path.{_≡_, refl, sym, ap, _∙_}
 use lib.Dec.{leb}
-use Rattle.reading.specs.First.{pick}
-use Rattle.reading.specs.Valid.{Valid}
-use Rattle.reading.specs.declared.records.Member.{Member}
+use Rattle.records.specs.First.{pick}
+use Rattle.records.specs.Valid.{Valid}
+use Rattle.records.specs.declared.Member.{Member}
 use Rattle.members.specs.declared.class.Class.the-variants.{ColumnC, WallA, WallB}
 use Rattle.members.specs.declared.tables.LimitSet.{LimitSet}
 use Rattle.members.specs.Class.{code, isWall, detailed, shearBelow, columnClass, wallClass, classOf}

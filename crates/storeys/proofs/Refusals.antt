@@ -7,10 +7,10 @@ use mathlib.Core.Path.{_≡_, refl}
 use lib.Dec.{eqb}
 use lib.ListN.{length, getD}
 use borrow.Author.Tests.{eqb-true, eqb-false, eq-eqb}
-use Rattle.reading.specs.First.{pick, inOrder, first}
-use Rattle.reading.specs.Survey.{listed}
-use Rattle.reading.proofs.Firsts as Firsts
-use Rattle.reading.proofs.Validity.{clear}
+use Rattle.records.specs.First.{pick, inOrder, first}
+use Rattle.records.specs.Totals.{listed}
+use Rattle.records.proofs.Firsts as Firsts
+use Rattle.records.proofs.Validity.{clear}
 use Rattle.storeys.specs.Storey.{countFault}
 use Rattle.storeys.proofs.Pairs.{All, empty, next}
 

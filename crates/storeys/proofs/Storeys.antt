@@ -8,10 +8,10 @@ use mathlib.Core.Path.{_≡_, refl, sym, subst}
 use lib.Dec.{ltb}
 use lib.ListN.{length}
 use borrow.Author.Tests.{ltb-true}
-use Rattle.reading.specs.First.{pick}
-use Rattle.reading.specs.Valid.{Valid}
-use Rattle.reading.specs.declared.records.Member.{Member}
-use Rattle.reading.proofs.Below.{and-left, and-right}
+use Rattle.records.specs.First.{pick}
+use Rattle.records.specs.Valid.{Valid}
+use Rattle.records.specs.declared.Member.{Member}
+use Rattle.records.proofs.Below.{and-left, and-right}
 use Rattle.members.specs.Tables.{orderedSet}
 use Rattle.members.specs.Finding.{axialRatioD, findingBy}
 use Rattle.storeys.specs.Storey.{Rules, orderly, wallShear, meetsWallShare, axialTotal, over, shearIfOver, overShear, someOver, storeyRisky}

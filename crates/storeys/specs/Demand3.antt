@@ -4,10 +4,10 @@ use mathlib.Core.Bool.{Bool, true, false}
 use mathlib.Core.List.{List}
 use mathlib.Core.Path.{_≡_}
 use lib.ListN.{length}
-use Rattle.reading.specs.Survey.{listed}
-use Rattle.reading.specs.declared.records.Header.{Header}
-use Rattle.reading.specs.declared.records.Storey.{Storey}
-use Rattle.reading.specs.declared.records.Member.{Member}
+use Rattle.records.specs.Totals.{listed}
+use Rattle.records.specs.declared.Header.{Header}
+use Rattle.records.specs.declared.Storey.{Storey}
+use Rattle.records.specs.declared.Member.{Member}
 use Rattle.members.specs.declared.class.Class.the-variants.{ColumnC}
 use Rattle.members.specs.declared.finding.MemberAnswer.{MemberAnswer}
 use Rattle.members.specs.declared.finding.MemberAnswer.the-variants.{Judged as JudgedMember, Refused as RefusedMember}

@@ -5,17 +5,16 @@ use mathlib.Core.List.{List, [], _∷_, map}
 use mathlib.Core.Path.{_≡_, refl}
 use lib.Dec.{eqb}
 use lib.ListN.{length, getD, take}
-use Rattle.reading.specs.First.{pick, every, any, first}
-use Rattle.reading.specs.Records.{zeroForce, headerFault, storeyFault, memberFault}
-use Rattle.reading.specs.Survey.{listed}
-use Rattle.reading.specs.declared.records.Header.{Header}
-use Rattle.reading.specs.declared.records.Storey.{Storey}
-use Rattle.reading.specs.declared.records.Member.{Member}
+use Rattle.records.specs.First.{pick, every, any, first}
+use Rattle.records.specs.Records.{zeroForce, headerFault, storeyFault, memberFault}
+use Rattle.records.specs.Totals.{listed, total, some}
+use Rattle.records.specs.declared.Header.{Header}
+use Rattle.records.specs.declared.Storey.{Storey}
+use Rattle.records.specs.declared.Member.{Member}
 use Rattle.members.specs.Class.{detailed, columnClass, wallClass, classOf}
 use Rattle.members.specs.Tables.{places, moments, rotations}
 use Rattle.members.specs.Limits.{interp, blend, columnA, columnB, columnC, wallRows, wallB, mLimitAt, rotationLimitAt}
 use Rattle.members.specs.Finding.{axial, moment, stress, hoops, mLimit, rotationLimit, mDropped, isOver, findingBy, answerBy, memberReturned}
-use Rattle.reading.specs.Totals.{total, some}
 use Rattle.storeys.specs.Storey.{meetsWallShare, axialTotal, overShear, someOver, damaged, exceedsShare, riskyByDamage, storeyRisky, storeyFinding, noMember, rowFault, memberRowsFault, storeyCallFault, storeyAnswerBy, storeyReturned}
 use Rattle.storeys.specs.Building.{membersBefore, membersOf, riskyAt, countsFault, storeyRowsFault, shearFaultAt, buildingFault, tilted, someRisky, buildingRisky, buildingFinding, buildingAnswerBy, buildingReturned}
 

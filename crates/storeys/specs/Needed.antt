@@ -4,13 +4,13 @@ use Prim.Native.Nat.{ℕ, _+_}
 use mathlib.Core.List.{List, [], _∷_, _++_, map}
 use mathlib.Core.Path.{_≡_, refl}
 use lib.ListN.{take}
-use Rattle.reading.specs.First.{every, any, first}
-use Rattle.reading.specs.Records.{zeroForce, headerFault, storeyFault, memberFault}
+use Rattle.records.specs.First.{every, any, first}
+use Rattle.records.specs.Records.{zeroForce, headerFault, storeyFault, memberFault}
 use Rattle.members.specs.Class.{detailed, columnClass, wallClass, classOf}
 use Rattle.members.specs.Tables.{places, moments, rotations}
 use Rattle.members.specs.Limits.{interp, blend, columnA, columnB, columnC, wallRows, wallB, mLimitAt, rotationLimitAt}
 use Rattle.members.specs.Finding.{axial, moment, stress, hoops, mLimit, rotationLimit, mDropped, isOver, findingBy}
-use Rattle.reading.specs.Totals.{total, some}
+use Rattle.records.specs.Totals.{total, some}
 use Rattle.storeys.specs.Storey.{meetsWallShare, axialTotal, overShear, someOver, damaged, exceedsShare, riskyByDamage, storeyRisky, storeyFinding, noMember, rowFault, memberRowsFault}
 use Rattle.storeys.specs.Building.{membersBefore, membersOf, riskyAt, countsFault, storeyRowsFault, shearFaultAt, buildingFault, tilted, someRisky, buildingRisky, buildingFinding, buildingAnswerBy, buildingReturned}
 use Rattle.storeys.specs.Demand3.{Survey}

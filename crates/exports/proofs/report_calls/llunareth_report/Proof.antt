@@ -16,8 +16,8 @@ use Rattle.walk.proofs.Slice.{R, kept, full, here, val-at, sh-at, sh-spares, sh
 use Rattle.walk.proofs.Array.{begin, end, over}
 use Rattle.walk.proofs.Fn.{Callee, Knows, Body, Answers, entry, callee, knows, call, meets}
 use Rattle.report.proofs.Structs.{reportjudgment}
-use Rattle.reading.specs.declared.records.Header.{Header}
-use Rattle.reading.proofs.Structs.{header, member, storey}
+use Rattle.records.specs.declared.Header.{Header}
+use Rattle.records.proofs.Structs.{header, member, storey}
 use Rattle.members.specs.Finding.{Returned}
 use Rattle.report.specs.Sheet.{returnedReport, reportReturned, bufferAfter}
 use Rattle.exports.specs.Words.{ten}

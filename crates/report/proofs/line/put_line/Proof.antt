@@ -4,7 +4,7 @@ use native.Mathlib.Omega.{arith}
 use borrow.Author.Needs.{needs}
 use lib.ListN.{length, drop, getD}
 use mathlib.Core.List.{[], _∷_}
-use Rattle.reading.specs.Spelling.{spelled}
+use Rattle.format.specs.Spelling.{spelled}
 use Rattle.report.specs.Line.{printedNumbers, stamped}
 use Rattle.report.proofs.Stamps.{kept-length, printed-numbers-next, printed-numbers-end, line-done}
 use Rattle.report.proofs.line.put_line.Statement.{statement}
