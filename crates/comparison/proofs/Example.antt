@@ -14,14 +14,14 @@ use Rattle.members.specs.Class.{isWall, detailed, columnClass, wallClass, class
 use Rattle.members.specs.Tables.{places, moments, rotations}
 use Rattle.members.specs.Limits.{interp, blend, columnA, columnB, columnC, wallRows, wallB, mLimitAt, rotationLimitAt}
 use Rattle.members.specs.Finding.{axial, moment, stress, hoops, mLimit, rotationLimit, mDropped, isOver, findingBy, answerBy}
 use Rattle.storeys.specs.declared.BuildingAnswer.{BuildingAnswer}
 use Rattle.storeys.specs.declared.BuildingAnswer.the-variants.{Judged}
 use Rattle.storeys.specs.Storey.{publishedRules, meetsWallShare, axialTotal, overShear, someOver, damaged, exceedsShare, riskyByDamage, storeyRisky, storeyFinding, noMember, rowFault, memberRowsFault, storeyCallFault, storeyAnswerBy}
 use Rattle.storeys.specs.Building.{membersBefore, membersOf, riskyAt, countsFault, storeyRowsFault, shearFaultAt, buildingFault, tilted, someRisky, buildingRisky, buildingFinding, buildingAnswerBy, named}
-use Rattle.storeys.specs.Pairing.{none, pair, EveryPair}
-use Rattle.storeys.specs.Demand3.{Survey, storeyMembersAt, Accepted, Over, Risky, BuildingRisky, StoreyPairs, AtLeastAsSevere, NowhereBetter, Carried}
-use Rattle.storeys.proofs.Tests.{never}
-use Rattle.storeys.proofs.Demand3.{demand3}
+use Rattle.comparison.specs.Pairing.{none, pair, EveryPair}
+use Rattle.comparison.specs.Demand3.{Survey, storeyMembersAt, Accepted, Over, Risky, BuildingRisky, StoreyPairs, AtLeastAsSevere, NowhereBetter, Carried}
+use Rattle.comparison.proofs.Tests.{never}
+use Rattle.comparison.proofs.Demand3.{demand3}
 
 -- what the members below differ in
 pub record Given : Type 0 where

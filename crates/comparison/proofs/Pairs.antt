@@ -1,13 +1,13 @@
 -- What a pairing carries over: totals, lengths, and that some element passes a test.
-use Prim.Native.Nat.{ℕ, suc, _+_, _≤_}
+use Prim.Native.Nat.{ℕ, suc, _+_, _≤_, zero, _<_}
 use native.Mathlib.Omega.{arith}
 use mathlib.Core.Bool.{Bool, true, false, _||_}
 use mathlib.Core.List.{List, [], _∷_, _++_}
 use mathlib.Core.Path.{_≡_, refl, sym, ap, _∙_}
-use lib.ListN.{length}
-use Rattle.records.specs.Totals.{total, some}
-use Rattle.storeys.specs.Pairing.{Pairing, none, pair, EveryPair}
-use Rattle.storeys.proofs.Tests.{or-carried}
+use lib.ListN.{length, getD}
+use Rattle.records.specs.Totals.{listed, total, some}
+use Rattle.comparison.specs.Pairing.{Pairing, none, pair, EveryPair}
+use Rattle.comparison.proofs.Tests.{or-carried}
 
 -- P holds of every element
 pub data All {A : Type 0} (P : A → Type 0) : List A → Type 0 where
@@ -76,3 +76,17 @@ module _ {A B : Type 0} {Q : A → B → Type 0} where
   of-all P P' (pair {y = y} before after q p) (next h a) b =
       let r = all-middle P' before y after b in
       ((h, r .0), of-all P P' p a (r .1))
+
+-- what holds of each place of a list holds of all its elements
+pub all-rows : {A : Type 0} (P : A → Type 0) (d : A) (xs : List A) → ((j : ℕ) → j < length xs → P (getD xs j d)) → All P xs
+all-rows P d [] h = empty
+all-rows P d (x ∷ xs) h = next (h 0 (omega arith)) (all-rows P d xs (λ j l. h (suc j) (omega arith)))
+
+all-after : {A : Type 0} (P : A → Type 0) (xs : List A) (x : A) → All P xs → P x → All P (xs ++ (x ∷ []))
+all-after P [] x a h = next h empty
+all-after P (y ∷ xs) x (next k a) h = next k (all-after P xs x a h)
+
+pub all-listed : {A : Type 0} (P : A → Type 0) (f : ℕ → A) (n : ℕ) → ((i : ℕ) → i < n → P (f i)) → All P (listed f n)
+unfolding listed
+all-listed P f zero h = empty
+all-listed P f (suc n) h = all-after P (listed f n) (f n) (all-listed P f n (λ i l. h i (omega arith))) (h n (omega arith))

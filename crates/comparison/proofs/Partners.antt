@@ -13,8 +13,8 @@ use Rattle.members.specs.Class.{code, isWall, detailed, shearBelow, columnClass
 use Rattle.members.specs.Tables.{orderedSet}
 use Rattle.members.specs.Finding.{axialRatioD, isOver}
 use Rattle.members.proofs.Worse.{Worse, nd-worse, over-stays}
 use Rattle.storeys.specs.Storey.{wallShear}
-use Rattle.storeys.specs.Demand3.{AtLeastAsSevere}
+use Rattle.comparison.specs.Demand3.{AtLeastAsSevere}
 
 -- only a column is of class C
 wall-not-c : (t : Bool) → pick t WallA WallB ≡ ColumnC → ⊥

@@ -9,8 +9,8 @@ use lib.Dec.{leb, ltb}
 use borrow.Author.Tests.{leb-true, leb-false}
 use Rattle.records.specs.First.{pick}
 use Rattle.members.specs.declared.tables.Two.{Two}
 use Rattle.storeys.specs.Storey.{exceedsShare}
-use Rattle.storeys.proofs.Tests.{ltb-carried}
+use Rattle.comparison.proofs.Tests.{ltb-carried}
 
 module _ (e1 e2 c p p' w σ σ' : ℕ) (rising : e1 < e2) (pos : 0 < c) (hp : p ≤ p') (hs : σ ≤ σ') where
   -- both between the ends

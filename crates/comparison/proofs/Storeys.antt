@@ -14,14 +14,14 @@ use Rattle.records.specs.declared.Member.{Member}
 use Rattle.records.proofs.Below.{and-left, and-right}
 use Rattle.members.specs.Tables.{orderedSet}
 use Rattle.members.specs.Finding.{axialRatioD, findingBy}
 use Rattle.storeys.specs.Storey.{Rules, orderly, wallShear, meetsWallShare, axialTotal, over, shearIfOver, overShear, someOver, storeyRisky}
-use Rattle.storeys.specs.Pairing.{EveryPair}
-use Rattle.storeys.specs.Demand3.{MemberPairs, AtLeastAsSevere}
-use Rattle.storeys.proofs.Tests.{never, and-carried, or-carried, excess-carried}
-use Rattle.storeys.proofs.Partners.{wall-shear-same, shear-kept, nd-kept, over-kept}
-use Rattle.storeys.proofs.Pairs.{each, total-le, total-equal, length-equal, some-carried}
-use Rattle.storeys.proofs.Share.{share-carried}
-use Rattle.storeys.proofs.Damage.{weight, weight-mono, damage-carried}
+use Rattle.comparison.specs.Pairing.{EveryPair}
+use Rattle.comparison.specs.Demand3.{MemberPairs, AtLeastAsSevere}
+use Rattle.comparison.proofs.Tests.{never, and-carried, or-carried, excess-carried}
+use Rattle.comparison.proofs.Partners.{wall-shear-same, shear-kept, nd-kept, over-kept}
+use Rattle.comparison.proofs.Pairs.{each, total-le, total-equal, length-equal, some-carried}
+use Rattle.comparison.proofs.Share.{share-carried}
+use Rattle.comparison.proofs.Damage.{weight, weight-mono, damage-carried}
 
 -- rules that keep the order, as facts
 pub record Orderly (rules : Rules) : Type 0 where

@@ -10,7 +10,7 @@ use lib.Dec.{ltb}
 use lib.ListN.{length, getD, take, drop}
 use borrow.Author.Tests.{lt-ltb, le-ltb}
 use Rattle.records.specs.First.{pick}
-use Rattle.storeys.specs.Pairing.{Pairing, none, pair, EveryPair}
+use Rattle.comparison.specs.Pairing.{Pairing, none, pair, EveryPair}
 
 -- places below n go to places below n, no two to the same
 pub record OneToOne (n : ℕ) (σ : ℕ → ℕ) : Type 0 where

@@ -13,13 +13,13 @@ use Rattle.members.specs.declared.finding.MemberAnswer.{MemberAnswer}
 use Rattle.members.specs.declared.finding.MemberAnswer.the-variants.{Judged as JudgedMember, Refused as RefusedMember}
 use Rattle.members.specs.Class.{isWall, classOf}
 use Rattle.members.specs.Finding.{answerBy}
 use Rattle.storeys.specs.declared.StoreyAnswer.{StoreyAnswer}
 use Rattle.storeys.specs.declared.StoreyAnswer.the-variants.{Judged as JudgedStorey, Refused as RefusedStorey}
 use Rattle.storeys.specs.declared.BuildingAnswer.{BuildingAnswer}
 use Rattle.storeys.specs.declared.BuildingAnswer.the-variants.{Judged as JudgedBuilding, Refused as RefusedBuilding}
 use Rattle.storeys.specs.Storey.{Rules, meetsWallShare, storeyAnswerBy}
 use Rattle.storeys.specs.Building.{storeyIn, membersOf, Answers, returnedBuilding}
-use Rattle.storeys.specs.Pairing.{Pairing, EveryPair}
+use Rattle.comparison.specs.Pairing.{Pairing, EveryPair}
 
 -- SURVEY: "a header with its storeys and members as records", which are the arguments of the call on a building
 pub record Survey : Type 0 where

@@ -12,15 +12,15 @@ use Rattle.records.specs.Totals.{listed, some}
 use Rattle.records.proofs.Validity.{valid}
 use Rattle.members.specs.Finding.{answerBy}
 use Rattle.members.proofs.Order.{published-ordered}
 use Rattle.storeys.specs.declared.BuildingAnswer.{BuildingAnswer}
 use Rattle.storeys.specs.Storey.{Rules, publishedRules, orderly, meetsWallShare, over, storeyRisky, storeyAnswerBy}
 use Rattle.storeys.specs.Building.{riskyAt, someRisky, buildingRisky, tiltAllowed, tilted}
-use Rattle.storeys.specs.Pairing.{EveryPair}
-use Rattle.storeys.specs.Demand3.{Survey, knowledgeOf, StoreyMembers, storeyMembersAt, storeysMembers, Accepted, overIn, riskyIn, Over, Risky, MemberPairs, StoreyPairs, AtLeastAsSevere, AtLeastAsSevereStorey, NowhereBetter, Carried, Demand3}
-use Rattle.storeys.proofs.Tests.{or-carried, excess-carried, at-equals}
-use Rattle.storeys.proofs.Pairs.{each, both, of-all, some-carried}
-use Rattle.storeys.proofs.Storeys.{Orderly, rules-ordered, Known, overs-carried, risky-carried}
-use Rattle.storeys.proofs.Accepted.{Sound, level-positive, has-members, good-members, risky-found, over-found, verdict-found, level-known, sound-storeys}
+use Rattle.comparison.specs.Pairing.{EveryPair}
+use Rattle.comparison.specs.Demand3.{Survey, knowledgeOf, StoreyMembers, storeyMembersAt, storeysMembers, Accepted, overIn, riskyIn, Over, Risky, MemberPairs, StoreyPairs, AtLeastAsSevere, AtLeastAsSevereStorey, NowhereBetter, Carried, Demand3}
+use Rattle.comparison.proofs.Tests.{or-carried, excess-carried, at-equals}
+use Rattle.comparison.proofs.Pairs.{each, both, of-all, some-carried}
+use Rattle.comparison.proofs.Storeys.{Orderly, rules-ordered, Known, overs-carried, risky-carried}
+use Rattle.comparison.proofs.Accepted.{Sound, level-positive, has-members, good-members, risky-found, over-found, verdict-found, level-known, sound-storeys}
 
 -- two storeys that are partners, judged with the levels j and k
 module _ (rules : Rules) (good : Orderly rules) (j k : ℕ) (same : j ≡ k) (pos : 0 < j) (f g : StoreyMembers) (ms : MemberPairs (f .members) (g .members)) (sf : Sound rules j f) (sg : Sound rules k g) (worse : AtLeastAsSevereStorey j f g ms) where

@@ -11,11 +11,11 @@ use lib.ListN.{length}
 use Rattle.records.specs.declared.Member.{Member}
 use Rattle.members.specs.Finding.{flag}
 use Rattle.records.specs.Totals.{total}
 use Rattle.storeys.specs.Storey.{damaged, riskyByDamage}
-use Rattle.storeys.specs.Demand3.{MemberPairs}
-use Rattle.storeys.specs.Pairing.{EveryPair}
-use Rattle.storeys.proofs.Pairs.{total-le, length-equal}
-use Rattle.storeys.proofs.Tests.{leb-carried}
+use Rattle.comparison.specs.Demand3.{MemberPairs}
+use Rattle.comparison.specs.Pairing.{EveryPair}
+use Rattle.comparison.proofs.Pairs.{total-le, length-equal}
+use Rattle.comparison.proofs.Tests.{leb-carried}
 
 -- what a member with damage of the kind d adds
 abbrev pub weight : ℕ → ℕ
