@@ -14,7 +14,7 @@ use Rattle.records.specs.declared.Member.{Member}
 use Rattle.reading.specs.Survey.{Outcome, accepted, refused, survey}
 use Rattle.reading.specs.Answer.{Told, told, storeysTold, storeysAfter, membersAfter}
 use Rattle.report.specs.declared.ReportAnswer.{ReportAnswer}
-use Rattle.report.specs.Line.{atFront, putLength}
+use Rattle.columns.specs.Line.{atFront, putLength}
 use Rattle.report.specs.Sheet.{sheet, refusalLine, reportFault, reportAnswer, bufferAfter}
 use Rattle.records.specs.First.{every}
 use Rattle.records.specs.Records.{headerFault}

@@ -5,7 +5,7 @@ use Rattle.reading.specs.Answer.{Told, filled, refusal}
 use Rattle.records.specs.declared.Header.{Header}
 use Rattle.report.specs.declared.ReportAnswer.{ReportAnswer}
 use Rattle.report.specs.declared.ReportAnswer.the-variants.{Written, Refused}
-use Rattle.report.specs.Line.{atFront, putLength}
+use Rattle.columns.specs.Line.{atFront, putLength}
 use Rattle.report.specs.Sheet.{refusalLine}
 
 -- the header of a refused file: blank

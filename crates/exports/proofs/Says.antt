@@ -18,7 +18,7 @@ use Rattle.records.specs.Records.{headerBy, storeyBy}
 use Rattle.storeys.specs.Storey.{storeyReturned}
 use Rattle.report.specs.Sheet.{reportReturned, bufferAfter}
 use Rattle.exports.specs.Words.{words as wordsOf, refusalTold, handed, ten, BuildingWritten}
-use Rattle.report.specs.Line.{atFront}
+use Rattle.columns.specs.Line.{atFront}
 
 abbrev pub bytes : RattleType
 bytes = rtF (fInt w8)

@@ -10,7 +10,7 @@ use Rattle.records.specs.declared.Storey.{Storey}
 use Rattle.records.specs.declared.Member.{Member}
 use Rattle.storeys.specs.declared.BuildingAnswer.{BuildingAnswer}
 use Rattle.storeys.specs.Storey.{publishedRules}
-use Rattle.report.specs.Line.{atFront}
+use Rattle.columns.specs.Line.{atFront}
 use Rattle.storeys.specs.Building.{Answers, returnedBuilding}
 
 -- refusal and line, 0 and 0 where accepted; the header's six fields; the numbers of storey and member rows filled

@@ -2,7 +2,7 @@
 ghost use mathlib.Core.Path.{_≡_};
 ghost use lib.ListN.{length};
 ghost use Rattle.records.specs.Records.{headerBy};
-ghost use Rattle.report.specs.Line.{atFront, putLength};
+ghost use Rattle.columns.specs.Line.{atFront, putLength};
 ghost use Rattle.report.specs.Sheet.{returnedReport, reportReturned, bufferAfter};
 ghost use Rattle.determination.specs.Determination.{printed};
 ghost use Rattle.exports.specs.Words.{handed, ten};

@@ -5,11 +5,11 @@ ghost use Prim.Native.Nat.{_+_, _≤_};
 ghost use lib.ListN.{length, take, drop};
 ghost use Rattle.format.specs.Spelling.{value, written, minusOf, fieldOf};
 ghost use Rattle.format.specs.Field.{fieldStep, numberOf, nextOf};
-use records::ZERO_FORCE;
 use crate::spelling::digits;
 use crate::spelling::goes_on;
 use crate::spelling::push;
 use crate::spelling::spells;
+use records::ZERO_FORCE;
 
 pub struct Cursor {
     pub at: usize,

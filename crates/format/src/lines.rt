@@ -12,13 +12,13 @@ use crate::cursor::Cursor;
 use crate::cursor::Field;
 use crate::cursor::next_of;
 use crate::cursor::number_of;
-use records::ranges::field_count;
-use records::ranges::range_allows;
 use records::Header;
 use records::LoadCase;
 use records::Member;
 use records::Storey;
 use records::Tag;
+use records::ranges::field_count;
+use records::ranges::range_allows;
 
 fn tag_byte(tag: Tag) -> u8
     ensures { λ r. ⌜ r ≡ tagByte tag ⌝ }

@@ -15,9 +15,9 @@ use crate::tables::LimitSet;
 use crate::units::HoopRatio;
 use crate::units::Microradians;
 use crate::units::Ratio;
-use records::ranges::member_fault;
 use records::Member;
 use records::ZERO_FORCE;
+use records::ranges::member_fault;
 
 pub struct Finding {
     pub class: Class,

@@ -8,23 +8,23 @@ ghost use Rattle.reading.specs.Checks.{HeaderLineOf, StoreyLineOf, Membe
 ghost use Rattle.reading.specs.Survey.{lineStart, membersFault, survey};
 ghost use Rattle.format.specs.Lines.{storeyAt, memberAt};
 ghost use Rattle.reading.specs.Answer.{tells, told, storeysTold};
-use records::first::earlier;
+use crate::refusal::Refusal;
+use crate::refusal::refusal_of;
 use format::lines::fields_fault;
-use records::numbers::header_of;
 use format::lines::is_framed;
 use format::lines::is_shaped;
-use records::numbers::member_of;
 use format::lines::read_fields;
-use records::numbers::storey_of;
-use records::ranges::header_fault;
-use records::ranges::member_fault;
-use records::ranges::storey_fault;
 use records::Header;
 use records::Member;
 use records::Storey;
 use records::Tag;
-use crate::refusal::Refusal;
-use crate::refusal::refusal_of;
+use records::first::earlier;
+use records::numbers::header_of;
+use records::numbers::member_of;
+use records::numbers::storey_of;
+use records::ranges::header_fault;
+use records::ranges::member_fault;
+use records::ranges::storey_fault;
 
 // A refusal and its line; number 0 is none.
 pub struct Fault {

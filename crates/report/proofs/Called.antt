@@ -20,9 +20,9 @@ use Rattle.storeys.specs.declared.BuildingAnswer.the-variants as building-answe
 use Rattle.storeys.proofs.Refusals.{None, one, rest, in-order-clear}
 use Rattle.report.specs.declared.ReportAnswer.{ReportAnswer}
 use Rattle.report.specs.declared.ReportAnswer.the-variants.{Written, Refused}
-use Rattle.report.specs.Line.{stamped}
+use Rattle.columns.specs.Line.{stamped}
 use Rattle.report.specs.Sheet.{buildingLine, lineOf, storeyLines, storeysLines, sheet, sizeOf, Few, faultBy, lengthFault, reportFault, reportAnswer, bufferAfter}
-use Rattle.report.proofs.Stamps.{stamped-both, stamped-front}
+use Rattle.columns.proofs.Stamps.{stamped-both, stamped-front}
 use Rattle.report.proofs.Rows.{length-building-line, length-storey-lines}
 use Rattle.report.proofs.Survey.{storeys-most, members-most, before-end, part-length}
 use Rattle.storeys.proofs.BuildingRows.{none-before}

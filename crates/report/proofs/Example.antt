@@ -15,7 +15,7 @@ use Rattle.members.specs.Finding.{axial, moment, stress, hoops, mLimit, rotatio
 use Rattle.records.specs.Totals.{total, some}
 use Rattle.storeys.specs.Storey.{meetsWallShare, axialTotal, overShear, someOver, damaged, exceedsShare, riskyByDamage, storeyRisky, storeyFinding}
 use Rattle.storeys.specs.Building.{membersBefore, membersOf, riskyAt, tilted, someRisky, buildingRisky}
-use Rattle.report.specs.Line.{printedNumbers, line}
+use Rattle.columns.specs.Line.{printedNumbers, line}
 use Rattle.report.specs.Sheet.{memberLine, storeyLine, buildingLine, memberLines, storeyLines, storeysLines, sheet}
 
 abbrev header : Header

@@ -23,7 +23,7 @@ use Rattle.storeys.specs.declared.BuildingAnswer.{BuildingAnswer}
 use Rattle.storeys.specs.declared.BuildingAnswer.the-variants as building-answer
 use Rattle.report.specs.declared.ReportAnswer.{ReportAnswer}
 use Rattle.report.specs.declared.ReportAnswer.the-variants.{Written, Refused}
-use Rattle.report.specs.Line.{line}
+use Rattle.columns.specs.Line.{line}
 
 -- "number, class (1 to 3 columns A to C, 4 and 5 walls A and B), m, its limit, rotation, its limit, over (0 or 1)"
 abbrev pub memberColumns : ℕ → Finding → List ℕ

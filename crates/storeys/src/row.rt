@@ -17,10 +17,10 @@ use members::finding::known;
 use members::tables::SHARE_FALL;
 use members::tables::SHARE_FROM;
 use members::tables::SHARE_TO;
-use records::ranges::member_fault;
-use records::ranges::storey_fault;
 use records::Member;
 use records::Storey;
+use records::ranges::member_fault;
+use records::ranges::storey_fault;
 
 // The largest P that is judged; a larger one is refused by 10.
 pub(crate) const OVER_SHEAR_MOST: u64 = 9_999_999_999;

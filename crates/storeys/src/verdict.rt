@@ -11,9 +11,9 @@ use crate::BuildingFinding;
 use crate::BuildingJudgment;
 use crate::StoreyFinding;
 use crate::row::OVER_SHEAR_MOST;
+use records::Header;
 use records::first::earlier;
 use records::ranges::header_fault;
-use records::Header;
 
 // What is found of some storeys, from the first on.
 pub(crate) struct Verdict {

@@ -3,7 +3,7 @@ use mathlib.Core.Path.{ap, _∙_}
 use mathlib.Core.List.{List}
 use Prim.Native.Nat.{ℕ}
 use Rattle.exports.specs.Words.{handed, ten}
-use Rattle.report.specs.Line.{atFront}
+use Rattle.columns.specs.Line.{atFront}
 use lib.ListN.{getD}
 use Rattle.members.specs.Finding.{Returned, returned, memberReturned}
 use Rattle.format.proofs.Held.{member-same}

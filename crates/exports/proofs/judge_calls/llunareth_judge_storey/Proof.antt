@@ -21,7 +21,7 @@ use Rattle.records.specs.declared.Storey.{Storey}
 use Rattle.storeys.specs.Storey.{returnedStorey, storeyReturned}
 use Rattle.members.specs.Finding.{Returned}
 use Rattle.exports.specs.Words.{ten}
-use Rattle.report.specs.Line.{atFront}
+use Rattle.columns.specs.Line.{atFront}
 use Rattle.exports.proofs.Says as Says
 use Rattle.exports.proofs.Says.{words}
 use Rattle.exports.proofs.judge_calls.storey_given.Met as storey-given-met

@@ -18,7 +18,7 @@ use Rattle.records.proofs.Structs.{member, storey}
 use Rattle.reading.proofs.Structs.{reading}
 use Rattle.reading.specs.Answer.{Told}
 use Rattle.exports.specs.Words.{words as wordsOf, refusalTold}
-use Rattle.report.specs.Line.{atFront}
+use Rattle.columns.specs.Line.{atFront}
 use Rattle.exports.proofs.Says as Says
 use Rattle.exports.proofs.Says.{bytes, words}
 use Rattle.reading.proofs.rows.read.Met as read-met

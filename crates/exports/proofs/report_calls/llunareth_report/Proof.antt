@@ -21,7 +21,7 @@ use Rattle.records.proofs.Structs.{header, member, storey}
 use Rattle.members.specs.Finding.{Returned}
 use Rattle.report.specs.Sheet.{returnedReport, reportReturned, bufferAfter}
 use Rattle.exports.specs.Words.{ten}
-use Rattle.report.specs.Line.{atFront}
+use Rattle.columns.specs.Line.{atFront}
 use Rattle.exports.proofs.Says as Says
 use Rattle.exports.proofs.Says.{bytes, words}
 use Rattle.exports.proofs.judge_calls.header_given.Met as header-given-met

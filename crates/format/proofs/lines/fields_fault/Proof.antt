@@ -29,9 +29,10 @@ number-of-requires c κs = search needs
 
 first-fault-requires : tie.Need-first-fault-requires
 first-fault-requires c κs =
-    let a = c .before .before .before .before .before .before .args in
-    (leb-true _ _ (sym (c .before .before .before .before .holds-fields .ensures) ∙ not-false _ (c .before .before .before .if1 .left)),
-    third-is (a .tag) (a .s .now) (a .at) (a .at + 17) (c .before .field .result) _ refl (rw (c .before .before .is-force .ensures) at (c .before .field .ensures)) (c .number-of .ensures))
+    let a = c .before .before .before .before .before .before .args in (
+      leb-true _ _ (sym (c .before .before .before .before .holds-fields .ensures) ∙ not-false _ (c .before .before .before .if1 .left)),
+      third-is (a .tag) (a .s .now) (a .at) (a .at + 17) (c .before .field .result) _ refl (rw (c .before .before .is-force .ensures) at (c .before .field .ensures)) (c .number-of .ensures),
+    )
 
 returns-2 : tie.Need-returns-2
 returns-2 c = rw (sym (c .before .before .before .before .before .holds-fields .ensures) ∙ not-false _ (c .before .before .before .before .if1 .left)) (c .first-fault .ensures)

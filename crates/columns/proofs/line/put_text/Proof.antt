@@ -3,10 +3,10 @@ use mathlib.Core.Path.{_≡_, refl}
 use native.Mathlib.Omega.{arith}
 use borrow.Author.Needs.{needs}
 use lib.ListN.{length, drop, getD, length-set}
-use Rattle.report.specs.Line.{stamped}
-use Rattle.report.proofs.Stamps.{text-next, text-end}
-use Rattle.report.proofs.line.put_text.Statement.{statement}
-use Rattle.report.proofs.line.put_text.Tie as tie
+use Rattle.columns.specs.Line.{stamped}
+use Rattle.columns.proofs.Stamps.{text-next, text-end}
+use Rattle.columns.proofs.line.put_text.Statement.{statement}
+use Rattle.columns.proofs.line.put_text.Tie as tie
 
 abbrev Inv-loop : tie.InvT-loop
 Inv-loop out₀ at text i₀ out i = (i ≤ length text) × (length out ≡ length out₀) × (stamped out (at + i) (drop i text) ≡ stamped out₀ at text)

@@ -1,9 +1,10 @@
-// One line of the sheet, put into the bytes from a place on. Each function gives the next place.
+// One line of fields, put into the bytes from a place on. Each function gives the next place.
 ghost use mathlib.Core.Path.{_≡_};
 ghost use Prim.Native.Nat.{_+_, _*_, _≤_};
+ghost use lib.Dec.{leb};
 ghost use lib.ListN.{length};
 ghost use Rattle.format.specs.Spelling.{spelled};
-ghost use Rattle.report.specs.Line.{line, stamped, digitsOver};
+ghost use Rattle.columns.specs.Line.{line, stamped, digitsOver, putAt, placeAfter};
 
 // Bytes as they stand.
 fn put_text(out: &mut [u8], at: usize, text: &[u8]) -> usize
@@ -47,8 +48,7 @@ fn put_field(out: &mut [u8], at: usize, n: u64) -> usize
     p
 }
 
-// A line: its tag, its fields, LF.
-pub(crate) fn put_line(out: &mut [u8], at: usize, tag: &[u8], values: &[u64]) -> usize
+fn put_whole_line(out: &mut [u8], at: usize, tag: &[u8], values: &[u64]) -> usize
     requires { ⌜ at + (length (now tag) + (12 * length (now values) + 1)) ≤ length (now out) ⌝ }
     ensures { λ r. ⌜ r ≡ at + (length (now (tag .entry)) + (12 * length (now (values .entry)) + 1)) ⌝ }
     ensures { λ _. ⌜ now (out .exit) ≡ stamped (now (out .entry)) at (line (now (tag .entry)) (now (values .entry))) ⌝ }
@@ -60,4 +60,29 @@ pub(crate) fn put_line(out: &mut [u8], at: usize, tag: &[u8], values: &[u64]) ->
         i += 1;
     }
     put_text(out, p, b"\n")
+}
+
+// A line of so many fields, with a tag of so many bytes, fits from `at` on.
+fn has_room(room: usize, at: usize, tag: usize, values: usize) -> bool
+    ensures { λ r. ⌜ r ≡ leb (at + (tag + (12 * values + 1))) room ⌝ }
+{
+    if room / 12 < values {
+        return false;
+    }
+    let left = room - 12 * values;
+    if left <= tag {
+        return false;
+    }
+    at < left - tag
+}
+
+// A line: its tag, its fields, LF. One that does not fit changes no byte.
+pub fn put_line(out: &mut [u8], at: usize, tag: &[u8], values: &[u64]) -> usize
+    ensures { λ r. ⌜ r ≡ placeAfter (line (now (tag .entry)) (now (values .entry))) at (length (now (out .entry))) ⌝ }
+    ensures { λ _. ⌜ now (out .exit) ≡ putAt (line (now (tag .entry)) (now (values .entry))) at (now (out .entry)) ⌝ }
+{
+    if !has_room(out.len(), at, tag.len(), values.len()) {
+        return at;
+    }
+    put_whole_line(out, at, tag, values)
 }

@@ -1,11 +1,11 @@
 use Prim.Native.Nat.{ℕ}
 use mathlib.Core.List.{List}
 use mathlib.Core.Path.{ap, _∙_}
-use Rattle.report.specs.Line.{digitsOver}
-use Rattle.report.proofs.Digits.{over-blanks}
+use Rattle.columns.specs.Line.{digitsOver}
+use Rattle.columns.proofs.Digits.{over-blanks}
 use borrow.Author.Needs.{needs}
-use Rattle.report.proofs.line.put_field.Statement.{statement}
-use Rattle.report.proofs.line.put_field.Tie as tie
+use Rattle.columns.proofs.line.put_field.Statement.{statement}
+use Rattle.columns.proofs.line.put_field.Tie as tie
 
 slice-aggregate-put-text : tie.Need-slice-aggregate-put-text
 slice-aggregate-put-text c = search needs

@@ -12,8 +12,8 @@ use borrow.Author.Tests.{lt-ltb, le-ltb, ltb-true, ltb-false}
 use Rattle.records.specs.First.{pick}
 use Rattle.format.specs.Spelling.{column, spelled}
 use Rattle.format.proofs.Typed.{length-spelled}
-use Rattle.report.specs.Line.{stamped, digitsOver}
-use Rattle.report.proofs.Stamps.{stamped-both}
+use Rattle.columns.specs.Line.{stamped, digitsOver}
+use Rattle.columns.proofs.Stamps.{stamped-both}
 
 -- ---- a turn of the loop
 pub over-last : (bytes : List ℕ) (at left q : ℕ) → 0 < left → q < 10 → set bytes (at + (left - 1)) (48 + q % 10) ≡ digitsOver bytes at left q

@@ -20,6 +20,14 @@ unfoldable pub stamped : List ℕ → ℕ → List ℕ → List ℕ
 stamped bytes at [] = bytes
 stamped bytes at (x ∷ xs) = stamped (set bytes at x) (at + 1) xs
 
+-- a text put into some bytes from `at` on; where it does not fit, all as they were
+abbrev pub putAt : List ℕ → ℕ → List ℕ → List ℕ
+putAt text at bytes = pick (leb (at + length text) (length bytes)) (stamped bytes at text) bytes
+
+-- the place after it; where it does not fit, the same place
+abbrev pub placeAfter : List ℕ → ℕ → ℕ → ℕ
+placeAfter text at room = pick (leb (at + length text) room) (at + length text) at
+
 -- a text put from the front of some bytes, those after it as they were; where it does not fit, all as they were
 abbrev pub atFront : List ℕ → List ℕ → List ℕ
 atFront text bytes = pick (leb (length text) (length bytes)) (text ++ drop (length text) bytes) bytes

@@ -5,13 +5,15 @@ use native.Mathlib.Numerals.{add-one}
 use mathlib.Core.Bool.{Bool, true, false}
 use mathlib.Core.List.{List, [], _∷_, _++_, append-assoc}
 use mathlib.Core.Path.{_≡_, refl, ap, sym, _∙_}
-use lib.Dec.{leb}
+use lib.Dec.{leb, ltb}
 use lib.ListN.{length, drop, set, getD, length-set, length-append, drop-of-length-le}
 use lib.Seq.{drop-cons, set-append-seam, append-snoc}
+use Rattle.records.specs.First.{pick}
 use Rattle.format.specs.Spelling.{spelled}
 use Rattle.format.proofs.Typed.{length-spelled}
-use borrow.Author.Tests.{le-leb, lt-leb}
-use Rattle.report.specs.Line.{printedNumbers, line, stamped, atFront, putLength}
+use borrow.Author.Tests.{le-leb, lt-leb, leb-true, ltb-true, ltb-false}
+use Rattle.records.proofs.Below.{agree}
+use Rattle.columns.specs.Line.{printedNumbers, line, stamped, atFront, putLength, putAt, placeAfter}
 
 pub length-stamped : (xs bytes : List ℕ) (at : ℕ) → length (stamped bytes at xs) ≡ length bytes
 unfolding stamped
@@ -48,19 +50,17 @@ stamped-after (x ∷ xs) before (b ∷ bytes) h =
 pub stamped-front : (xs bytes : List ℕ) → length xs ≤ length bytes → stamped bytes 0 xs ≡ xs ++ drop (length xs) bytes
 stamped-front xs bytes h = stamped-after xs [] bytes h
 
--- a text that fits, and one that does not
+-- a text put from the front
 module _ (text bytes : List ℕ) where
-  pub front-put : length text ≤ length bytes → stamped bytes 0 text ≡ atFront text bytes
-  front-put h = stamped-front text bytes h ∙ rw (le-leb _ _ h)
+  put-front-by : (t : Bool) → leb (length text) (length bytes) ≡ t → pick t (stamped bytes 0 text) bytes ≡ pick t (text ++ drop (length text) bytes) bytes
+  put-front-by true e = stamped-front text bytes (leb-true (length text) (length bytes) e)
+  put-front-by false e = refl
 
-  pub put-whole : length text ≤ length bytes → length text ≡ putLength text (length bytes)
-  put-whole h = rw (le-leb _ _ h)
+  pub put-front : putAt text 0 bytes ≡ atFront text bytes
+  put-front = let z : 0 + length text ≡ length text = omega arith in rw z (put-front-by (leb (length text) (length bytes)) refl)
 
-  pub front-kept : length bytes < length text → bytes ≡ atFront text bytes
-  front-kept h = rw (lt-leb _ _ h)
-
-  pub put-none : length bytes < length text → 0 ≡ putLength text (length bytes)
-  put-none h = rw (lt-leb _ _ h)
+  pub place-front : placeAfter text 0 (length bytes) ≡ putLength text (length bytes)
+  place-front = let z : 0 + length text ≡ length text = omega arith in rw z
 
   put-within-by : (t : Bool) → leb (length text) (length bytes) ≡ t → putLength text (length bytes) ≤ length (atFront text bytes)
   put-within-by true e = rw e (omega (arith, length-append text (drop (length text) bytes)))
@@ -69,6 +69,20 @@ module _ (text bytes : List ℕ) where
   -- what was put lies in the bytes
   pub put-within : (n : ℕ) (after : List ℕ) → n ≡ putLength text (length bytes) → after ≡ atFront text bytes → n ≤ length after
   put-within n after e f = rw (e, f) (put-within-by (leb (length text) (length bytes)) refl)
+
+-- a text that fits from a place on
+module _ (text bytes : List ℕ) (at : ℕ) where
+  pub put-fits : at + length text ≤ length bytes → putAt text at bytes ≡ stamped bytes at text
+  put-fits h = rw (le-leb _ _ h)
+
+  pub place-fits : at + length text ≤ length bytes → placeAfter text at (length bytes) ≡ at + length text
+  place-fits h = rw (le-leb _ _ h)
+
+-- what is left after the fields holds the tag, the LF, and the bytes before the line
+pub room-by : (room at tag fields : ℕ) → fields + tag < room → ltb at (room - fields - tag) ≡ leb (at + (tag + (fields + 1))) room
+room-by room at tag fields h =
+    agree _ _ (λ e. le-leb (at + (tag + (fields + 1))) room (omega (arith, ltb-true at (room - fields - tag) e)))
+    (λ e. lt-leb (at + (tag + (fields + 1))) room (omega (arith, ltb-false at (room - fields - tag) e)))
 
 -- ---- the loops
 

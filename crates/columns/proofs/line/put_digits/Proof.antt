@@ -3,10 +3,10 @@ use native.Mathlib.Omega.{arith}
 use mathlib.Core.Path.{_≡_, refl, _∙_}
 use lib.ListN.{length, length-set}
 use borrow.Author.Needs.{needs}
-use Rattle.report.specs.Line.{digitsOver}
-use Rattle.report.proofs.Digits.{over-last, over-more, over-none}
-use Rattle.report.proofs.line.put_digits.Statement.{statement}
-use Rattle.report.proofs.line.put_digits.Tie as tie
+use Rattle.columns.specs.Line.{digitsOver}
+use Rattle.columns.proofs.Digits.{over-last, over-more, over-none}
+use Rattle.columns.proofs.line.put_digits.Statement.{statement}
+use Rattle.columns.proofs.line.put_digits.Tie as tie
 
 abbrev Inv-loop : tie.InvT-loop
 Inv-loop out₀ at n q₀ left₀ out q left = (left ≤ 12) × (length out ≡ length out₀) × (digitsOver out at left q ≡ digitsOver out₀ at 12 n)

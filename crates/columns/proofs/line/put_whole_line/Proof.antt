@@ -5,10 +5,10 @@ use borrow.Author.Needs.{needs}
 use lib.ListN.{length, drop, getD}
 use mathlib.Core.List.{[], _∷_}
 use Rattle.format.specs.Spelling.{spelled}
-use Rattle.report.specs.Line.{printedNumbers, stamped}
-use Rattle.report.proofs.Stamps.{kept-length, printed-numbers-next, printed-numbers-end, line-done}
-use Rattle.report.proofs.line.put_line.Statement.{statement}
-use Rattle.report.proofs.line.put_line.Tie as tie
+use Rattle.columns.specs.Line.{printedNumbers, stamped}
+use Rattle.columns.proofs.Stamps.{kept-length, printed-numbers-next, printed-numbers-end, line-done}
+use Rattle.columns.proofs.line.put_whole_line.Statement.{statement}
+use Rattle.columns.proofs.line.put_whole_line.Tie as tie
 
 abbrev Inv-loop : tie.InvT-loop
 Inv-loop out₀ at tag values p₀ i₀ t7 out p i = (i ≤ length values) × (p ≡ p₀ + 12 * i) × (length out ≡ length out₀) × (stamped out p (printedNumbers (drop i values)) ≡ stamped out₀ p₀ (printedNumbers values))
@@ -83,8 +83,8 @@ returns c =
           (printed-numbers-end (l .out) _ (a .values .now) (l .p) (l .i) (l .inv .3) (c .before .before .before .before .before .loop-test .left)) (omega (arith, l .inv .1, d)) (e .ensures .1) refl,
     )
 
-pub put-line-spec : {M : Type 1} → statement M
-put-line-spec =
+pub put-whole-line-spec : {M : Type 1} → statement M
+put-whole-line-spec =
     tie.close
     (tie.spec
     Inv-loop
