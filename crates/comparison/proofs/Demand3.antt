@@ -16,7 +16,7 @@ use Rattle.storeys.specs.declared.BuildingAnswer.{BuildingAnswer}
 use Rattle.storeys.specs.Storey.{Rules, publishedRules, orderly, meetsWallShare, over, storeyRisky, storeyAnswerBy}
 use Rattle.storeys.specs.Building.{riskyAt, someRisky, buildingRisky, tiltAllowed, tilted}
 use Rattle.comparison.specs.Pairing.{EveryPair}
-use Rattle.comparison.specs.Demand3.{Survey, knowledgeOf, StoreyMembers, storeyMembersAt, storeysMembers, Accepted, overIn, riskyIn, Over, Risky, MemberPairs, StoreyPairs, AtLeastAsSevere, AtLeastAsSevereStorey, NowhereBetter, Carried, Demand3}
+use Rattle.comparison.specs.Demand3.{Survey, knowledgeOf, StoreyMembers, storeyMembersAt, storeysMembers, Accepted, overIn, riskyIn, Over, Risky, MemberPairs, StoreyPairs, AtLeastAsSevere, AtLeastAsSevereStorey, NowhereBetter, Carried, Demand3By, Demand3}
 use Rattle.comparison.proofs.Tests.{or-carried, excess-carried, at-equals}
 use Rattle.comparison.proofs.Pairs.{each, both, of-all, some-carried}
 use Rattle.comparison.proofs.Storeys.{Orderly, rules-ordered, Known, overs-carried, risky-carried}
@@ -127,7 +127,7 @@ module _ (rules : Rules) (good : Orderly rules) (a b : Survey) (r q : BuildingAn
       }
 
 -- for every set of rules whose limits and share ends keep the order
-pub demand3-by : (rules : Rules) → orderly rules ≡ true → Demand3 rules
+pub demand3-by : (rules : Rules) → orderly rules ≡ true → Demand3By rules
 demand3-by rules e a b r q ra rb pairs worse = carried rules (rules-ordered rules e) a b r q ra rb pairs worse
 
 -- the published rules do
@@ -135,5 +135,5 @@ published-orderly : orderly publishedRules ≡ true
 published-orderly = rw published-ordered
 
 -- DEMAND 3
-pub demand3 : Demand3 publishedRules
+pub demand3 : Demand3
 demand3 = demand3-by publishedRules published-orderly

@@ -8,3 +8,4 @@ pub mod Storeys
 pub mod Accepted
 pub mod Demand3
 pub mod Example
+pub mod Needed

@@ -17,7 +17,7 @@ use Rattle.storeys.specs.declared.StoreyAnswer.{StoreyAnswer}
 use Rattle.storeys.specs.declared.StoreyAnswer.the-variants.{Judged as JudgedStorey, Refused as RefusedStorey}
 use Rattle.storeys.specs.declared.BuildingAnswer.{BuildingAnswer}
 use Rattle.storeys.specs.declared.BuildingAnswer.the-variants.{Judged as JudgedBuilding, Refused as RefusedBuilding}
-use Rattle.storeys.specs.Storey.{Rules, meetsWallShare, storeyAnswerBy}
+use Rattle.storeys.specs.Storey.{Rules, publishedRules, meetsWallShare, storeyAnswerBy}
 use Rattle.storeys.specs.Building.{storeyIn, membersOf, Answers, returnedBuilding}
 use Rattle.comparison.specs.Pairing.{Pairing, EveryPair}
 
@@ -143,7 +143,10 @@ pub record Carried (rules : Rules) (a b : Survey) (r q : BuildingAnswer) (pairs 
   pub building : BuildingRisky r → BuildingRisky q
 
 -- DEMAND 3: "Take any two accepted surveys and any way of pairing off all their storeys one to one, and each storey's members with those of its partner":
--- where the second is nowhere better, every finding is carried. `demand3` of proofs/ is its proof for the published rules
-abbrev pub Demand3 : Rules → Type 0
-Demand3 rules =
+-- where the second is nowhere better, every finding is carried. By any rules, and by the published ones
+abbrev pub Demand3By : Rules → Type 0
+Demand3By rules =
     (a b : Survey) (r q : BuildingAnswer) → Accepted rules a r → Accepted rules b q → (pairs : StoreyPairs a b) → NowhereBetter a b pairs → Carried rules a b r q pairs
+
+abbrev pub Demand3 : Type 0
+Demand3 = Demand3By publishedRules

