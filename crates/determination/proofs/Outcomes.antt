@@ -8,17 +8,17 @@ use lib.Dec.{leb, eqb}
 use lib.ListN.{length, take, drop, length-append, length-take}
 use lib.Seq.{take-append-seam}
 use borrow.Author.Tests.{eqb-true, le-leb, lt-leb}
-use Rattle.reading.specs.declared.records.Header.{Header}
-use Rattle.reading.specs.declared.records.Storey.{Storey}
-use Rattle.reading.specs.declared.records.Member.{Member}
+use Rattle.records.specs.declared.Header.{Header}
+use Rattle.records.specs.declared.Storey.{Storey}
+use Rattle.records.specs.declared.Member.{Member}
 use Rattle.reading.specs.Survey.{Outcome, accepted, refused, survey}
 use Rattle.reading.specs.Answer.{Told, told, storeysTold, storeysAfter, membersAfter}
 use Rattle.report.specs.declared.ReportAnswer.{ReportAnswer}
-use Rattle.report.specs.Line.{atFront, putLength}
+use Rattle.columns.specs.Line.{atFront, putLength}
 use Rattle.report.specs.Sheet.{sheet, refusalLine, reportFault, reportAnswer, bufferAfter}
-use Rattle.reading.specs.First.{every}
-use Rattle.reading.specs.Records.{headerFault}
-use Rattle.reading.specs.Totals.{total}
+use Rattle.records.specs.First.{every}
+use Rattle.records.specs.Records.{headerFault}
+use Rattle.records.specs.Totals.{total}
 use Rattle.storeys.specs.Building.{buildingFault, countsFault}
 use Rattle.report.proofs.Called.{sheet-fits}
 use Rattle.determination.specs.Answers.{blank, headerTold, membersTold, lengthBy, bytesBy, lengthTold, bytesTold}

@@ -8,10 +8,10 @@ use mathlib.Core.Path.{_≡_, refl, sym}
 use lib.Dec.{eqb}
 use lib.ListN.{length}
 use borrow.Author.Tests.{eqb-true, le-leb}
-use Rattle.reading.specs.declared.records.Header.{Header}
-use Rattle.reading.specs.declared.records.Storey.{Storey}
-use Rattle.reading.specs.declared.records.Member.{Member}
-use Rattle.reading.specs.Lines.{headerAt}
+use Rattle.records.specs.declared.Header.{Header}
+use Rattle.records.specs.declared.Storey.{Storey}
+use Rattle.records.specs.declared.Member.{Member}
+use Rattle.format.specs.Lines.{headerAt}
 use Rattle.reading.specs.Survey.{Outcome, accepted, survey, surveyFault, storey}
 use Rattle.reading.specs.Answer.{told, storeysTold}
 use Rattle.reading.proofs.Numbers.{length-listed, length-members}

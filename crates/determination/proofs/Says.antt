@@ -10,7 +10,7 @@ use borrow.Kind.MutSlice.{pMutS}
 use borrow.Table.Referent.{rtF, fInt}
 use Rattle.walk.proofs.Fn.{Plain}
 use Rattle.reading.specs.Survey.{survey}
-use Rattle.report.specs.Line.{atFront, putLength}
+use Rattle.columns.specs.Line.{atFront, putLength}
 use Rattle.determination.specs.Determination.{storeyRows, memberRows, text}
 
 abbrev pub bytes : RattleType

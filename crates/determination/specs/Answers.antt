@@ -2,10 +2,10 @@
 use Prim.Native.Nat.{ℕ}
 use mathlib.Core.List.{List}
 use Rattle.reading.specs.Answer.{Told, filled, refusal}
-use Rattle.reading.specs.declared.records.Header.{Header}
+use Rattle.records.specs.declared.Header.{Header}
 use Rattle.report.specs.declared.ReportAnswer.{ReportAnswer}
 use Rattle.report.specs.declared.ReportAnswer.the-variants.{Written, Refused}
-use Rattle.report.specs.Line.{atFront, putLength}
+use Rattle.columns.specs.Line.{atFront, putLength}
 use Rattle.report.specs.Sheet.{refusalLine}
 
 -- the header of a refused file: blank

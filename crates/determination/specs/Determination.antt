@@ -4,7 +4,7 @@ use Prim.Native.Nat.{ℕ}
 use mathlib.Core.List.{List}
 use lib.Dec.{leb, eqb}
 use lib.ListN.{length}
-use Rattle.reading.specs.First.{pick}
+use Rattle.records.specs.First.{pick}
 use Rattle.reading.specs.Survey.{Outcome, accepted, refused, survey}
 use Rattle.report.specs.Sheet.{sheet, reportFault, refusalLine}
 

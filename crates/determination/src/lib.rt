@@ -2,7 +2,7 @@
 // of rows that are lent are given here, and nowhere below.
 ghost use mathlib.Core.Path.{_≡_};
 ghost use lib.ListN.{length};
-ghost use Rattle.report.specs.Line.{atFront, putLength};
+ghost use Rattle.columns.specs.Line.{atFront, putLength};
 ghost use Rattle.determination.specs.Determination.{storeyRows, memberRows, text, printed};
 ghost use Rattle.reading.specs.Survey.{survey};
 use crate::answers::blank_member;

@@ -7,7 +7,7 @@ use mathlib.Core.Path.{_≡_, refl, sym, _∙_}
 use lib.ListN.{length, take, drop, set, getD}
 use borrow.Author.Tests.{le-leb, lt-leb}
 use Rattle.reading.specs.Answer.{Told, filled, refusal}
-use Rattle.report.specs.Line.{atFront}
+use Rattle.columns.specs.Line.{atFront}
 use Rattle.exports.specs.Words.{words, refusalTold}
 use lib.Seq.{take-suc, drop-cons, set-at, length-take-le, take-all, append-snoc}
 

@@ -13,12 +13,12 @@ use Rattle.reading.specs.Survey.{survey}
 use Rattle.reading.specs.Answer.{told, storeysAfter, membersAfter}
 use Rattle.walk.proofs.Fn.{Plain}
 use Rattle.walk.proofs.Slice.{R}
-use Rattle.reading.proofs.Structs.{member, storey}
-use Rattle.reading.specs.Lines.{headerBy, storeyBy}
+use Rattle.records.proofs.Structs.{member, storey}
+use Rattle.records.specs.Records.{headerBy, storeyBy}
 use Rattle.storeys.specs.Storey.{storeyReturned}
 use Rattle.report.specs.Sheet.{reportReturned, bufferAfter}
 use Rattle.exports.specs.Words.{words as wordsOf, refusalTold, handed, ten, BuildingWritten}
-use Rattle.report.specs.Line.{atFront}
+use Rattle.columns.specs.Line.{atFront}
 
 abbrev pub bytes : RattleType
 bytes = rtF (fInt w8)

@@ -5,12 +5,12 @@ use mathlib.Core.Path.{_≡_}
 use lib.ListN.{take, getD}
 use Rattle.members.specs.Finding.{Returned}
 use Rattle.reading.specs.Answer.{Told, filled, refusal}
-use Rattle.reading.specs.declared.records.Header.{Header}
-use Rattle.reading.specs.declared.records.Storey.{Storey}
-use Rattle.reading.specs.declared.records.Member.{Member}
+use Rattle.records.specs.declared.Header.{Header}
+use Rattle.records.specs.declared.Storey.{Storey}
+use Rattle.records.specs.declared.Member.{Member}
 use Rattle.storeys.specs.declared.BuildingAnswer.{BuildingAnswer}
 use Rattle.storeys.specs.Storey.{publishedRules}
-use Rattle.report.specs.Line.{atFront}
+use Rattle.columns.specs.Line.{atFront}
 use Rattle.storeys.specs.Building.{Answers, returnedBuilding}
 
 -- refusal and line, 0 and 0 where accepted; the header's six fields; the numbers of storey and member rows filled

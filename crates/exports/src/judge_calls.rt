@@ -1,23 +1,23 @@
 // The calls on a member, a storey and a building. A record handed in as numbers has them in the order of its line, N_D and N_K counted from
 // -20,000,000; a number that is not given is outside every range.
 ghost use mathlib.Core.Path.{_≡_};
-ghost use Rattle.reading.specs.Lines.{headerBy, memberBy, storeyBy};
+ghost use Rattle.records.specs.Records.{headerBy, memberBy, storeyBy};
 ghost use Rattle.storeys.specs.Storey.{returnedStorey, storeyReturned};
 ghost use Rattle.members.specs.Finding.{returned, memberReturned};
 ghost use Rattle.storeys.specs.Building.{returnedBuilding};
 ghost use Rattle.exports.specs.Words.{handed, ten, BuildingWritten};
-ghost use Rattle.report.specs.Line.{atFront};
+ghost use Rattle.columns.specs.Line.{atFront};
 use crate::words::put_ten;
 use crate::words::values_of;
 use members::finding::MemberAnswer;
 use members::finding::flag;
 use members::finding::judge_member;
-use reading::lines::header_of;
-use reading::lines::member_of;
-use reading::lines::storey_of;
-use reading::records::Header;
-use reading::records::Member;
-use reading::records::Storey;
+use records::Header;
+use records::Member;
+use records::Storey;
+use records::numbers::header_of;
+use records::numbers::member_of;
+use records::numbers::storey_of;
 use storeys::BuildingAnswer;
 use storeys::BuildingJudgment;
 use storeys::StoreyAnswer;

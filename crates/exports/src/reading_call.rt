@@ -4,12 +4,12 @@ ghost use lib.ListN.{length};
 ghost use Rattle.reading.specs.Survey.{survey};
 ghost use Rattle.reading.specs.Answer.{tells, told, storeysAfter, membersAfter};
 ghost use Rattle.exports.specs.Words.{words, refusalTold};
-ghost use Rattle.report.specs.Line.{atFront};
+ghost use Rattle.columns.specs.Line.{atFront};
 use crate::words::put_ten;
-use reading::records::Member;
-use reading::records::Storey;
 use reading::survey::ReadAnswer;
 use reading::survey::Reading;
+use records::Member;
+use records::Storey;
 
 // What an answer tells, as ten numbers: refusal and line (0 and 0 where accepted), the header's six fields, the numbers of rows filled.
 fn words_of(r: Reading) -> [u64; 10]

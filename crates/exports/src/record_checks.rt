@@ -1,8 +1,7 @@
 // The checks of one record, given by its numbers in the order of its line, N_D and N_K counted from -20,000,000; a number that is not given is
 // outside every range.
 ghost use mathlib.Core.Path.{_≡_};
-ghost use Rattle.reading.specs.Records.{headerFault, storeyFault, memberFault};
-ghost use Rattle.reading.specs.Lines.{headerBy, storeyBy, memberBy};
+ghost use Rattle.records.specs.Records.{headerFault, storeyFault, memberFault, headerBy, storeyBy, memberBy};
 ghost use Rattle.exports.specs.Words.{handed};
 use crate::words::values_of;
 
@@ -11,7 +10,7 @@ pub extern "C" fn llunareth_header_fault(values: &[u64]) -> u64
     ensures { λ r. ⌜ r ≡ headerFault (headerBy (handed (now (values .entry)))) ⌝ }
 {
     let vs = values_of(values);
-    reading::ranges::header_fault(reading::lines::header_of(vs))
+    records::ranges::header_fault(records::numbers::header_of(vs))
 }
 
 #[no_mangle]
@@ -19,7 +18,7 @@ pub extern "C" fn llunareth_storey_fault(values: &[u64]) -> u64
     ensures { λ r. ⌜ r ≡ storeyFault (storeyBy (handed (now (values .entry)))) ⌝ }
 {
     let vs = values_of(values);
-    reading::ranges::storey_fault(reading::lines::storey_of(vs))
+    records::ranges::storey_fault(records::numbers::storey_of(vs))
 }
 
 #[no_mangle]
@@ -27,5 +26,5 @@ pub extern "C" fn llunareth_member_fault(values: &[u64]) -> u64
     ensures { λ r. ⌜ r ≡ memberFault (memberBy (handed (now (values .entry)))) ⌝ }
 {
     let vs = values_of(values);
-    reading::ranges::member_fault(reading::lines::member_of(vs))
+    records::ranges::member_fault(records::numbers::member_of(vs))
 }

@@ -1,16 +1,16 @@
 // The report call, and the way from a file's bytes to the sheet's.
 ghost use mathlib.Core.Path.{_≡_};
 ghost use lib.ListN.{length};
-ghost use Rattle.reading.specs.Lines.{headerBy};
-ghost use Rattle.report.specs.Line.{atFront, putLength};
+ghost use Rattle.records.specs.Records.{headerBy};
+ghost use Rattle.columns.specs.Line.{atFront, putLength};
 ghost use Rattle.report.specs.Sheet.{returnedReport, reportReturned, bufferAfter};
 ghost use Rattle.determination.specs.Determination.{printed};
 ghost use Rattle.exports.specs.Words.{handed, ten};
 use crate::judge_calls::header_given;
 use crate::words::put_ten;
 use determination::determine;
-use reading::records::Member;
-use reading::records::Storey;
+use records::Member;
+use records::Storey;
 use report::ReportAnswer;
 use report::ReportJudgment;
 use report::sheet::write_report;

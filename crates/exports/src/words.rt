@@ -3,7 +3,7 @@ ghost use mathlib.Core.Path.{_≡_};
 ghost use Prim.Native.Nat.{ℕ, _<_};
 ghost use lib.ListN.{getD};
 ghost use Rattle.exports.specs.Words.{handed};
-ghost use Rattle.report.specs.Line.{atFront};
+ghost use Rattle.columns.specs.Line.{atFront};
 
 // Writes ten numbers to the front of a buffer that holds them, and else nothing; gives the first.
 pub(crate) fn put_ten(out: &mut [u64], w: [u64; 10]) -> u64

@@ -5,7 +5,7 @@ use mathlib.Core.Bool.{Bool, true, false, _||_}
 use mathlib.Core.Path.{_≡_, refl}
 use lib.Dec.{eqb}
 use borrow.Author.Tests.{eqb-true}
-use Rattle.reading.specs.declared.records.Member.{Member}
+use Rattle.records.specs.declared.Member.{Member}
 use Rattle.members.specs.declared.class.Class.{Class}
 use Rattle.members.specs.declared.finding.Finding.{Finding}
 use Rattle.members.specs.declared.limits.Ratios.{Ratios}

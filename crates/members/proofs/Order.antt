@@ -8,8 +8,8 @@ use mathlib.Core.Path.{_≡_, refl}
 use lib.Dec.{eqb}
 use lib.ListN.{getD}
 use borrow.Author.Tests.{leb-true, ltb-true, eqb-true}
-use Rattle.reading.proofs.Below.{and-left, and-right}
-use Rattle.reading.specs.First.{pick}
+use Rattle.records.proofs.Below.{and-left, and-right}
+use Rattle.records.specs.First.{pick}
 use Rattle.members.specs.declared.class.Class.{Class}
 use Rattle.members.specs.declared.class.Class.the-variants.{ColumnA, ColumnB, ColumnC, WallA, WallB}
 use Rattle.members.specs.declared.limits.Fraction.{Fraction}

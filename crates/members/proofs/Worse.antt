@@ -6,10 +6,10 @@ use mathlib.Core.Bool.{Bool, true, false, _&&_, _||_, not, or-true}
 use mathlib.Core.Path.{_≡_, refl, sym, _∙_}
 use lib.Dec.{leb, ltb, eqb}
 use borrow.Author.Tests.{leb-true, ltb-true, le-leb, lt-ltb}
-use Rattle.reading.proofs.Below.{and-left, and-right}
-use Rattle.reading.specs.First.{pick}
-use Rattle.reading.specs.Valid.{Valid}
-use Rattle.reading.specs.declared.records.Member.{Member}
+use Rattle.records.proofs.Below.{and-left, and-right}
+use Rattle.records.specs.First.{pick}
+use Rattle.records.specs.Valid.{Valid}
+use Rattle.records.specs.declared.Member.{Member}
 use Rattle.members.specs.declared.class.Class.{Class}
 use Rattle.members.specs.declared.class.Class.the-variants.{ColumnA, ColumnB, ColumnC}
 use Rattle.members.specs.declared.tables.LimitSet.{LimitSet}

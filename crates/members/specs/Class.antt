@@ -2,8 +2,8 @@
 use Prim.Native.Nat.{ℕ, _*_}
 use mathlib.Core.Bool.{Bool, _&&_, _||_}
 use lib.Dec.{leb, ltb, eqb}
-use Rattle.reading.specs.First.{pick}
-use Rattle.reading.specs.declared.records.Member.{Member}
+use Rattle.records.specs.First.{pick}
+use Rattle.records.specs.declared.Member.{Member}
 use Rattle.members.specs.declared.class.Class.{Class}
 use Rattle.members.specs.declared.class.Class.the-variants.{ColumnA, ColumnB, ColumnC, WallA, WallB}
 

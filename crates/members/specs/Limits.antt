@@ -2,7 +2,7 @@
 use Prim.Native.Nat.{ℕ, _+_, _-_, _*_, min, max}
 use mathlib.Core.List.{List, [], _∷_}
 use lib.Dec.{leb, eqb}
-use Rattle.reading.specs.First.{pick}
+use Rattle.records.specs.First.{pick}
 use Rattle.members.specs.declared.class.Class.{Class}
 use Rattle.members.specs.declared.class.Class.the-variants.{ColumnA, ColumnB, ColumnC, WallA, WallB}
 use Rattle.members.specs.declared.limits.Row.{Row}

@@ -1,9 +1,9 @@
 // How a member would fail (document 01, "Member"): its class, chosen once, by exact tests.
 ghost use mathlib.Core.Path.{_≡_};
 ghost use Prim.Native.Nat.{_≤_};
-ghost use Rattle.reading.specs.Valid.{Valid};
+ghost use Rattle.records.specs.Valid.{Valid};
 ghost use Rattle.members.specs.Class.{code, isWall, hoopsHold, detailed, shearBelow, columnClass, wallClass, classOf};
-use reading::records::Member;
+use records::Member;
 
 pub enum Class {
     ColumnA,

@@ -1,7 +1,7 @@
 // The call on a member (document 01, "Member"): its ratios, class and limits, and whether it is over.
 ghost use mathlib.Core.Path.{_≡_};
 ghost use Prim.Native.Nat.{_≤_};
-ghost use Rattle.reading.specs.Valid.{Valid};
+ghost use Rattle.records.specs.Valid.{Valid};
 ghost use Rattle.members.specs.Finding.{flag, compression, axial, moment, stress, hoops, ratios, mDropped, exceeds, findingBy, knowledge, memberAnswer};
 ghost use Rattle.members.specs.Sizes.{SizedSet};
 use crate::class::Class;
@@ -15,9 +15,9 @@ use crate::tables::LimitSet;
 use crate::units::HoopRatio;
 use crate::units::Microradians;
 use crate::units::Ratio;
-use reading::ranges::member_fault;
-use reading::records::Member;
-use reading::records::ZERO_FORCE;
+use records::Member;
+use records::ZERO_FORCE;
+use records::ranges::member_fault;
 
 pub struct Finding {
     pub class: Class,

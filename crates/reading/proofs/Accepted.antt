@@ -9,20 +9,22 @@ use lib.Dec.{ltb, eqb, eqb·suc-zero}
 use lib.ListN.{length, take, drop, getD, length-append, length-drop, take-append-drop}
 use lib.Seq.{drop-cons, set-at, take-at, drop-drop, drop-append-add, length-take-le}
 use borrow.Author.Tests.{eqb-true, ltb-true, ltb-false}
-use Rattle.reading.specs.First.{pick, inOrder}
-use Rattle.reading.specs.Records.{storeyFault, memberFault}
-use Rattle.reading.specs.Lines.{shaped, fieldsFault, headerAt}
-use Rattle.reading.specs.Survey.{lineStart, lineNumber, membersBefore, storey, memberStart, member, shape, unheld, repeated, headerLineFault, storeyLineFault, memberLineFault, noFault, at-line, firstFault, membersFault, storeysFault, trailing, surveyFault, listed, firstMembers, survey, placed, filledMembers}
+use Rattle.records.specs.First.{pick, inOrder}
+use Rattle.records.specs.Records.{storeyFault, memberFault, repeated}
+use Rattle.format.specs.Lines.{shaped, fieldsFault, headerAt}
+use Rattle.reading.specs.Survey.{lineStart, lineNumber, membersBefore, storey, memberStart, member, shape, unheld, headerLineFault, storeyLineFault, memberLineFault, noFault, at-line, firstFault, membersFault, storeysFault, trailing, surveyFault, firstMembers, survey, placed, filledMembers}
+use Rattle.records.specs.Totals.{listed}
 use Rattle.reading.specs.Checks.{Fits}
 use Rattle.reading.specs.Answer.{told, storeysTold, storeysAfter, membersAfter}
-use Rattle.reading.specs.declared.records.Storey.{Storey}
-use Rattle.reading.specs.declared.records.Member.{Member}
-use Rattle.reading.specs.declared.records.Tag.{Tag}
-use Rattle.reading.specs.declared.records.Tag.the-variants.{B, S, M}
+use Rattle.records.specs.declared.Storey.{Storey}
+use Rattle.records.specs.declared.Member.{Member}
+use Rattle.records.specs.declared.Tag.{Tag}
+use Rattle.records.specs.declared.Tag.the-variants.{B, S, M}
 use Rattle.reading.specs.declared.survey.Fault.{Fault}
-use Rattle.reading.proofs.Firsts.{pick-clear, pick-both, step-clear, first-clear}
-use Rattle.reading.proofs.Held.{shaped-fits}
-use Rattle.reading.proofs.Files.{count-most}
+use Rattle.records.proofs.Firsts.{pick-clear, pick-both, step-clear, first-clear}
+use Rattle.format.proofs.Shape.{shaped-fits}
+use Rattle.format.proofs.LineText.{Clean}
+use Rattle.records.proofs.Validity.{count-most}
 use Rattle.reading.proofs.Filling.{before-suc}
 use Rattle.reading.proofs.Numbers.{length-listed, length-members, ten-storeys}
 
@@ -192,10 +194,6 @@ module _ (s : List ℕ) (srows mrows n : ℕ) where
   members-are d rows = members-by (eqb (surveyFault s srows mrows .number) 0) d rows refl
 
 -- ---- the lines of an accepted file: each has its shape, and no field of it is refused
-pub record Clean (tag : Tag) (s : List ℕ) (at : ℕ) : Type 0 where
-  pub form : shaped tag (drop at s) ≡ true
-  pub written : fieldsFault tag s at ≡ 0
-
 line-clean : (tag : Tag) (s : List ℕ) (at b d e : ℕ) → inOrder (shape tag s at ∷ b ∷ fieldsFault tag s at ∷ d ∷ e ∷ []) ≡ 0 → Clean tag s at
 line-clean tag s at b d e z =
     let a = five-clear (shape tag s at) b (fieldsFault tag s at) d e z in

@@ -6,31 +6,23 @@ use native.Mathlib.Numerals.{add-one}
 use mathlib.Core.Bool.{Bool}
 use mathlib.Core.List.{List, [], _∷_}
 use mathlib.Core.Path.{_≡_, refl, ap, sym, _∙_}
-use lib.Dec.{leb, ltb, eqb}
+use lib.Dec.{ltb, eqb}
 use lib.ListN.{length, getD, set, length-set}
 use lib.Seq.{getD-set-same, getD-set-other}
 use borrow.Author.Count.{below-more}
-use borrow.Author.Tests.{eq-eqb, ne-eqb, lt-ltb, le-ltb, leb-true}
-use Rattle.reading.specs.First.{pick, any, every, inOrder}
-use Rattle.reading.specs.Records.{inRange, storeyValues, storeyFault}
-use Rattle.reading.specs.Lines.{fieldsFault}
-use Rattle.reading.specs.Survey.{lineStart, lineNumber, membersBefore, storey, shape, unheld, repeated, storeyLineFault, noFault, or-else, firstFault, membersFault, storeysFault, trailing}
+use borrow.Author.Tests.{eq-eqb, ne-eqb, lt-ltb, le-ltb}
+use Rattle.records.specs.First.{pick, any, inOrder}
+use Rattle.records.specs.Records.{storeyFault, repeated}
+use Rattle.format.specs.Lines.{fieldsFault}
+use Rattle.reading.specs.Survey.{lineStart, lineNumber, membersBefore, storey, shape, unheld, storeyLineFault, noFault, or-else, firstFault, membersFault, storeysFault, trailing}
 use Rattle.reading.specs.Checks.{storeyFirst, StoreyLineOf, MembersDue, CheckedOf}
-use Rattle.reading.specs.declared.records.Storey.{Storey}
-use Rattle.reading.specs.declared.records.Tag.the-variants.{S}
+use Rattle.records.specs.declared.Storey.{Storey}
+use Rattle.records.specs.declared.Tag.the-variants.{S}
 use Rattle.reading.specs.declared.survey.Fault.{Fault}
 use Rattle.reading.specs.declared.survey.StoreyLine.{StoreyLine}
-use Rattle.reading.proofs.Below.{and-right, every-at}
-use Rattle.reading.proofs.Firsts.{first-none, first-next, first-kept, in-order-last, pick-clear, pick-both}
+use Rattle.records.proofs.Firsts.{first-none, first-next, first-kept, in-order-last, pick-clear, pick-both}
 use Rattle.reading.proofs.Storeys.{any-same, by-first}
-use Rattle.reading.proofs.Validity.{clear}
-
--- a good storey has 200 members at most
-pub count-most : (st : Storey) → storeyFault st ≡ 0 → st .count ≤ 200
-unfolding storeyFault
-count-most st e =
-    let t = clear (every (inRange S (storeyValues st)) 3) 0 3 e (omega arith) .0 in
-    leb-true (st .count) 200 (and-right (leb 1 (st .count)) (leb (st .count) 200) (every-at (inRange S (storeyValues st)) 3 2 t (omega arith)))
+use Rattle.records.proofs.Validity.{count-most}
 
 pub record Begun (s : List ℕ) (n srows mrows : ℕ) (numbers : List ℕ) (i m : ℕ) : Type 0 where
   pub storeys : n ≤ 10

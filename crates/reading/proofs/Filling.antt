@@ -7,11 +7,11 @@ use mathlib.Core.List.{List}
 use mathlib.Core.Logic.{⊎-elim}
 use mathlib.Core.Path.{_≡_, refl, ap, sym, _∙_}
 use lib.ListN.{length}
-use Rattle.reading.specs.Lines.{storeyAt, memberAt}
+use Rattle.format.specs.Lines.{storeyAt, memberAt}
 use Rattle.reading.specs.Survey.{lineStart, membersBefore, storey, member, placed, filledMembers}
 use Rattle.reading.specs.Checks.{Fits}
-use Rattle.reading.specs.declared.records.Storey.{Storey}
-use Rattle.reading.specs.declared.records.Member.{Member}
+use Rattle.records.specs.declared.Storey.{Storey}
+use Rattle.records.specs.declared.Member.{Member}
 
 pub before-suc : (s : List ℕ) (i : ℕ) → membersBefore s (i + 1) ≡ membersBefore s i + storey s i .count
 unfolding membersBefore

@@ -8,22 +8,23 @@ use mathlib.Core.Path.{_≡_, refl, ap, sym, _∙_}
 use lib.Dec.{leb, ltb, eqb}
 use lib.ListN.{length, drop, length-append}
 use borrow.Author.Tests.{leb-true, eq-eqb, ne-eqb}
-use Rattle.reading.specs.First.{pick, every, any, inOrder, first}
-use Rattle.reading.specs.Records.{Allowed, allows, fields, inRange, headerValues, storeyValues, memberValues, headerFault, storeyFault, memberFault}
-use Rattle.reading.specs.Lines.{shaped, faultIn, fieldAt, fieldFault, fieldsFault, headerAt}
-use Rattle.reading.specs.Survey.{lineStart, lineNumber, membersBefore, storey, memberStart, member, shape, unheld, repeated, headerLineFault, storeyLineFault, memberLineFault, noFault, at-line, or-else, firstFault, membersFault, storeysFault, trailing, surveyFault, listed, firstMembers, survey}
+use Rattle.records.specs.First.{pick, every, any, inOrder, first}
+use Rattle.records.specs.Records.{Allowed, allows, fields, inRange, headerValues, storeyValues, memberValues, headerFault, storeyFault, memberFault, repeated}
+use Rattle.format.specs.Lines.{shaped, faultIn, fieldAt, fieldFault, fieldsFault, headerAt}
+use Rattle.reading.specs.Survey.{lineStart, lineNumber, membersBefore, storey, memberStart, member, shape, unheld, headerLineFault, storeyLineFault, memberLineFault, noFault, at-line, or-else, firstFault, membersFault, storeysFault, trailing, surveyFault, firstMembers, survey}
+use Rattle.records.specs.Totals.{listed}
 use Rattle.reading.specs.Checks.{CheckedOf}
 use Rattle.reading.specs.Answer.{told, filled, refusal}
-use Rattle.reading.specs.declared.records.Header.{Header}
-use Rattle.reading.specs.declared.records.Member.{Member}
-use Rattle.reading.specs.declared.records.Storey.{Storey}
-use Rattle.reading.specs.declared.records.Tag.{Tag}
-use Rattle.reading.specs.declared.records.Tag.the-variants.{B, S, M}
+use Rattle.records.specs.declared.Header.{Header}
+use Rattle.records.specs.declared.Member.{Member}
+use Rattle.records.specs.declared.Storey.{Storey}
+use Rattle.records.specs.declared.Tag.{Tag}
+use Rattle.records.specs.declared.Tag.the-variants.{B, S, M}
 use Rattle.reading.specs.declared.survey.Fault.{Fault}
 use Rattle.reading.specs.declared.survey.Checked.{Checked}
-use Rattle.reading.proofs.Below.{and-right, every-at}
-use Rattle.reading.proofs.Firsts.{in-order-last, pick-both}
-use Rattle.reading.proofs.Validity.{clear}
+use Rattle.records.proofs.Below.{and-right, every-at}
+use Rattle.records.proofs.Firsts.{in-order-last, pick-both}
+use Rattle.records.proofs.Validity.{clear}
 
 pick-most : (t : Bool) (a b n : ℕ) → a ≤ n → b ≤ n → pick t a b ≤ n
 pick-most true a b n h g = h

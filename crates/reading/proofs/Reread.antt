@@ -9,21 +9,22 @@ use lib.Dec.{eqb}
 use lib.ListN.{length, take, drop, getD, length-append, length-drop}
 use lib.Seq.{drop-cons, drop-drop, drop-at, take-suc, take-add, take-length, drop-length, length-take-le, getD-take, getD-drop}
 use borrow.Author.Tests.{ne-eqb, lt-ltb, le-ltb, eq-eqb}
-use Rattle.reading.specs.First.{any, inOrder}
-use Rattle.reading.specs.Records.{headerValues, storeyValues, memberValues, storeyFault, memberFault}
-use Rattle.reading.specs.Lines.{headerAt, storeyAt}
-use Rattle.reading.specs.Survey.{lineStart, lineNumber, membersBefore, storey, memberStart, member, shape, unheld, repeated, headerLineFault, storeyLineFault, memberLineFault, noFault, at-line, firstFault, membersFault, storeysFault, surveyFault, listed, firstStoreys, firstMembers, accepted, survey}
-use Rattle.reading.specs.Totals.{total}
-use Rattle.reading.specs.Writing.{lineText, membersText, storeysText, fileText, memberCount, before, Sound}
-use Rattle.reading.specs.declared.records.Header.{Header}
-use Rattle.reading.specs.declared.records.Storey.{Storey}
-use Rattle.reading.specs.declared.records.Member.{Member}
-use Rattle.reading.specs.declared.records.Tag.{Tag}
-use Rattle.reading.specs.declared.records.Tag.the-variants.{B, S, M}
-use Rattle.reading.proofs.Accepted.{Clean}
-use Rattle.reading.proofs.Firsts.{first-zero}
+use Rattle.records.specs.First.{any, inOrder}
+use Rattle.records.specs.Records.{headerValues, storeyValues, memberValues, storeyFault, memberFault, repeated}
+use Rattle.format.specs.Lines.{headerAt, storeyAt}
+use Rattle.reading.specs.Survey.{lineStart, lineNumber, membersBefore, storey, memberStart, member, shape, unheld, headerLineFault, storeyLineFault, memberLineFault, noFault, at-line, firstFault, membersFault, storeysFault, surveyFault, firstStoreys, firstMembers, accepted, survey}
+use Rattle.records.specs.Totals.{listed, total}
+use Rattle.format.specs.Text.{lineText}
+use Rattle.reading.specs.Writing.{membersText, storeysText, fileText, memberCount, before, Sound}
+use Rattle.records.specs.declared.Header.{Header}
+use Rattle.records.specs.declared.Storey.{Storey}
+use Rattle.records.specs.declared.Member.{Member}
+use Rattle.records.specs.declared.Tag.{Tag}
+use Rattle.records.specs.declared.Tag.the-variants.{B, S, M}
+use Rattle.format.proofs.LineText.{Clean}
+use Rattle.records.proofs.Firsts.{first-zero}
 use Rattle.reading.proofs.Resent.{total-more}
-use Rattle.reading.proofs.Typed.{length-line, drop-past, header-typed, storey-typed, member-typed}
+use Rattle.format.proofs.Typed.{length-line, drop-past, header-typed, storey-typed, member-typed}
 
 -- ---- lists
 any-never : (p : ℕ → Bool) (n : ℕ) → ((j : ℕ) → j < n → p j ≡ false) → any p n ≡ false

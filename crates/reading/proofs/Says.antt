@@ -11,13 +11,14 @@ use borrow.Kind.Num.{pNum}
 use borrow.Kind.ShrSlice.{pShrS}
 use borrow.Kind.MutSlice.{pMutS}
 use borrow.Table.Referent.{rtF, fInt}
-use Rattle.reading.specs.Lines.{memberAt}
+use Rattle.format.specs.Lines.{memberAt}
 use Rattle.reading.specs.Survey.{lineStart, membersBefore, storey as storeyOf, placed, filledMembers, survey}
 use Rattle.reading.specs.Answer.{tells, told, storeysAfter, membersAfter}
 use Rattle.reading.specs.Checks.{Fits}
 use Rattle.walk.proofs.Fn.{Plain}
 use Rattle.walk.proofs.Slice.{R, made}
-use Rattle.reading.proofs.Structs.{member, storey, reading}
+use Rattle.records.proofs.Structs.{member, storey}
+use Rattle.reading.proofs.Structs.{reading}
 
 abbrev pub bytes : RattleType
 bytes = rtF (fInt w8)

@@ -10,15 +10,15 @@ use lib.ListN.{length, getD, set, length-set}
 use lib.Seq.{getD-set-same, getD-set-other}
 use borrow.Author.Count.{below-more}
 use borrow.Author.Tests.{ne-eqb}
-use Rattle.reading.specs.First.{pick, any, first}
-use Rattle.reading.specs.Records.{memberFault}
-use Rattle.reading.specs.Lines.{fieldsFault}
-use Rattle.reading.specs.declared.records.Tag.the-variants.{M}
-use Rattle.reading.specs.Survey.{lineStart, lineNumber, membersBefore, storey, memberStart, member, shape, unheld, repeated, memberLineFault, noFault, at-line, firstFault, membersFault}
+use Rattle.records.specs.First.{pick, any, first}
+use Rattle.records.specs.Records.{memberFault, repeated}
+use Rattle.format.specs.Lines.{fieldsFault}
+use Rattle.records.specs.declared.Tag.the-variants.{M}
+use Rattle.reading.specs.Survey.{lineStart, lineNumber, membersBefore, storey, memberStart, member, shape, unheld, memberLineFault, noFault, at-line, firstFault, membersFault}
 use Rattle.reading.specs.Checks.{memberFirst, MemberLineOf, MembersDue}
 use Rattle.reading.specs.declared.survey.Fault.{Fault}
 use Rattle.reading.specs.declared.survey.MemberLine.{MemberLine}
-use Rattle.reading.proofs.Firsts.{first-none, first-next, first-kept, in-order-last, pick-clear}
+use Rattle.records.proofs.Firsts.{first-none, first-next, first-kept, in-order-last, pick-clear}
 
 pub any-same : (p q : ℕ → Bool) (n : ℕ) → ((e : ℕ) → e < n → p e ≡ q e) → any p n ≡ any q n
 unfolding any

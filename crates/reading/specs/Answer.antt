@@ -3,9 +3,9 @@ use Prim.Native.Nat.{ℕ}
 use mathlib.Core.List.{List, _++_}
 use lib.ListN.{length, drop}
 use Rattle.reading.specs.Survey.{Outcome, accepted, refused}
-use Rattle.reading.specs.declared.records.Header.{Header}
-use Rattle.reading.specs.declared.records.Storey.{Storey}
-use Rattle.reading.specs.declared.records.Member.{Member}
+use Rattle.records.specs.declared.Header.{Header}
+use Rattle.records.specs.declared.Storey.{Storey}
+use Rattle.records.specs.declared.Member.{Member}
 use Rattle.reading.specs.declared.refusal.Refusal.{Refusal}
 use Rattle.reading.specs.declared.refusal.Refusal.the-variants.{Line, Spelling, Range, Sides, Repeated, Trailing, Scope, Rows, Buffer, Shear}
 use Rattle.reading.specs.declared.survey.ReadAnswer.{ReadAnswer}

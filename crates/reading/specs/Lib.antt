@@ -1,10 +1,3 @@
-pub mod Field
-pub mod First
-pub mod Totals
-pub mod Lines
-pub mod Records
-pub mod Spelling
-pub mod Valid
 pub mod Survey
 pub mod Checks
 pub mod Answer

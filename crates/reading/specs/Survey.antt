@@ -4,14 +4,15 @@ use Prim.Native.Nat.{ℕ, zero, suc, _+_, _*_}
 use mathlib.Core.List.{List, [], _∷_, _++_}
 use lib.Dec.{ltb, eqb}
 use lib.ListN.{length, drop, set}
-use Rattle.reading.specs.First.{pick, any, inOrder, first}
-use Rattle.reading.specs.Records.{headerFault, storeyFault, memberFault}
-use Rattle.reading.specs.Lines.{shaped, fieldsFault, headerAt, storeyAt, memberAt}
-use Rattle.reading.specs.declared.records.Header.{Header}
-use Rattle.reading.specs.declared.records.Storey.{Storey}
-use Rattle.reading.specs.declared.records.Member.{Member}
-use Rattle.reading.specs.declared.records.Tag.{Tag}
-use Rattle.reading.specs.declared.records.Tag.the-variants.{B, S, M}
+use Rattle.records.specs.First.{pick, inOrder, first}
+use Rattle.records.specs.Totals.{listed}
+use Rattle.records.specs.Records.{headerFault, storeyFault, memberFault, repeated}
+use Rattle.format.specs.Lines.{shaped, fieldsFault, headerAt, storeyAt, memberAt}
+use Rattle.records.specs.declared.Header.{Header}
+use Rattle.records.specs.declared.Storey.{Storey}
+use Rattle.records.specs.declared.Member.{Member}
+use Rattle.records.specs.declared.Tag.{Tag}
+use Rattle.records.specs.declared.Tag.the-variants.{B, S, M}
 use Rattle.reading.specs.declared.survey.Fault.{Fault}
 
 -- "one B, then each S followed by its M lines": where the line begins before which stand the B line (50 bytes), i S lines (26) and
@@ -45,10 +46,6 @@ shape tag s at = pick (shaped tag (drop at s)) 0 1
 -- 8, more records than the lent rows hold: record k, counted from 0, of so many rows
 abbrev pub unheld : ℕ → ℕ → ℕ
 unheld k rows = pick (ltb k rows) 0 8
-
--- 5, a number repeated: that of record k is one of those before it
-abbrev pub repeated : (ℕ → ℕ) → ℕ → ℕ
-repeated number k = pick (any (λ e. eqb (number e) (number k)) k) 5 0
 
 -- the first refusal of a line: "1, then 8, then each field's 2 and 3 from the left, then 4, 5, 7"
 unfoldable pub headerLineFault : List ℕ → ℕ
@@ -99,11 +96,6 @@ unfoldable pub surveyFault : List ℕ → ℕ → ℕ → Fault
 surveyFault s srows mrows =
     or-else (at-line 1 (headerLineFault s))
     (or-else (firstFault (storeysFault s srows mrows) (headerAt s 0 .count)) (trailing s (headerAt s 0 .count)))
-
--- f 0, f 1, .. f (n - 1)
-unfoldable pub listed : {A : Type 0} → (ℕ → A) → ℕ → List A
-listed f zero = []
-listed f (suc n) = listed f n ++ (f n ∷ [])
 
 -- the storeys of the first n S lines, and their members
 abbrev pub firstStoreys : List ℕ → ℕ → List Storey

@@ -1,40 +1,16 @@
 -- A survey written as a file (document 01, "The survey record"; document 02, N1): the columns of a number, a line, the whole file; and
 -- which surveys can be written.
-use Prim.Native.Nat.{ℕ, suc, _+_, _-_, _≤_, _<_}
-use mathlib.Core.Bool.{Bool, true, false}
+use Prim.Native.Nat.{ℕ, _+_, _-_, _<_}
 use mathlib.Core.List.{List, [], _∷_, _++_}
 use mathlib.Core.Path.{_≡_}
-use lib.Dec.{leb}
 use lib.ListN.{length, take, drop, getD}
-use Rattle.reading.specs.Totals.{total}
-use Rattle.reading.specs.First.{pick}
-use Rattle.reading.specs.Records.{zeroForce, headerValues, storeyValues, memberValues, headerFault, storeyFault, memberFault}
-use Rattle.reading.specs.Spelling.{spelled}
-use Rattle.reading.specs.Lines.{tagByte, isForce}
-use Rattle.reading.specs.declared.records.Header.{Header}
-use Rattle.reading.specs.declared.records.Storey.{Storey}
-use Rattle.reading.specs.declared.records.Member.{Member}
-use Rattle.reading.specs.declared.records.Tag.{Tag}
-use Rattle.reading.specs.declared.records.Tag.the-variants.{B, S, M}
-
--- the numbers that have a spelling in a field: of a force, with six digits at most after a minus; else with seven digits at most
-abbrev pub Spellable : Bool → ℕ → Type 0
-Spellable false v = v ≤ 9_999_999
-Spellable true v = (zeroForce - 999_999 ≤ v) × (v ≤ zeroForce + 9_999_999)
-
--- the eight columns of a stored number. N_D and N_K are stored counted from zeroForce
-unfoldable pub fieldText : Bool → ℕ → List ℕ
-fieldText false v = spelled 8 32 v
-fieldText true v = pick (leb zeroForce v) (spelled 8 32 (v - zeroForce)) (spelled 8 45 (zeroForce - v))
-
--- the fields of a line, from field j on
-unfoldable pub fieldsText : Tag → ℕ → List ℕ → List ℕ
-fieldsText tag j [] = []
-fieldsText tag j (v ∷ vs) = fieldText (isForce tag j) v ++ fieldsText tag (suc j) vs
-
--- a line: its tag, its fields, LF
-unfoldable pub lineText : Tag → List ℕ → List ℕ
-lineText tag vs = tagByte tag ∷ (fieldsText tag 0 vs ++ (10 ∷ []))
+use Rattle.records.specs.Totals.{total}
+use Rattle.format.specs.Text.{lineText}
+use Rattle.records.specs.Records.{headerValues, storeyValues, memberValues, headerFault, storeyFault, memberFault}
+use Rattle.records.specs.declared.Header.{Header}
+use Rattle.records.specs.declared.Storey.{Storey}
+use Rattle.records.specs.declared.Member.{Member}
+use Rattle.records.specs.declared.Tag.the-variants.{B, S, M}
 
 unfoldable pub membersText : List Member → List ℕ
 membersText [] = []

@@ -2,19 +2,18 @@
 ghost use mathlib.Core.Path.{_≡_};
 ghost use Prim.Native.Nat.{ℕ, _+_, _≤_};
 ghost use lib.ListN.{length};
-ghost use Rattle.reading.specs.Lines.{memberAt};
-ghost use Rattle.reading.specs.Survey.{lineStart, membersBefore, storey, placed, filledMembers};
-ghost use Rattle.reading.specs.Survey.{survey};
+ghost use Rattle.format.specs.Lines.{memberAt};
+ghost use Rattle.reading.specs.Survey.{lineStart, membersBefore, storey, placed, filledMembers, survey};
 ghost use Rattle.reading.specs.Answer.{tells, told, storeysAfter, membersAfter};
 ghost use Rattle.reading.specs.Checks.{Fits};
-use crate::records::Member;
-use crate::records::Storey;
 use crate::survey::Reading;
 use crate::survey::check;
-use crate::survey::count_of;
 use crate::survey::member_at;
 use crate::survey::storey_at;
 use crate::survey::storeys_read;
+use records::Member;
+use records::Storey;
+use records::numbers::count_of;
 
 // The members of storey i, before which stand m members.
 fn fill_members(s: &[u8], rows: &mut [Member], i: usize, m: usize, count: usize)

@@ -3,28 +3,28 @@ ghost use mathlib.Core.Path.{_≡_};
 ghost use Prim.Native.Nat.{ℕ, _+_, _≤_};
 ghost use lib.Dec.{eqb};
 ghost use lib.ListN.{length, getD};
-ghost use Rattle.reading.specs.First.{pick, any};
+ghost use Rattle.records.specs.First.{pick, any};
 ghost use Rattle.reading.specs.Checks.{HeaderLineOf, StoreyLineOf, MemberGood, MemberLineOf, MembersDue, CheckedOf};
 ghost use Rattle.reading.specs.Survey.{lineStart, membersFault, survey};
-ghost use Rattle.reading.specs.Lines.{storeyAt, memberAt};
+ghost use Rattle.format.specs.Lines.{storeyAt, memberAt};
 ghost use Rattle.reading.specs.Answer.{tells, told, storeysTold};
-use crate::lines::earlier;
-use crate::lines::fields_fault;
-use crate::lines::header_of;
-use crate::lines::is_framed;
-use crate::lines::is_shaped;
-use crate::lines::member_of;
-use crate::lines::read_fields;
-use crate::lines::storey_of;
-use crate::ranges::header_fault;
-use crate::ranges::member_fault;
-use crate::ranges::storey_fault;
-use crate::records::Header;
-use crate::records::Member;
-use crate::records::Storey;
-use crate::records::Tag;
 use crate::refusal::Refusal;
 use crate::refusal::refusal_of;
+use format::lines::fields_fault;
+use format::lines::is_framed;
+use format::lines::is_shaped;
+use format::lines::read_fields;
+use records::Header;
+use records::Member;
+use records::Storey;
+use records::Tag;
+use records::first::earlier;
+use records::numbers::header_of;
+use records::numbers::member_of;
+use records::numbers::storey_of;
+use records::ranges::header_fault;
+use records::ranges::member_fault;
+use records::ranges::storey_fault;
 
 // A refusal and its line; number 0 is none.
 pub struct Fault {
@@ -68,7 +68,7 @@ pub(crate) fn header_line(s: &[u8]) -> HeaderLine
     let vs = f.values;
     let h = header_of(vs);
     HeaderLine {
-        fault: earlier(fields_fault(s, 0, Tag::B, vs[2]), header_fault(h)),
+        fault: earlier(fields_fault(s, 0, Tag::B), header_fault(h)),
         header: h,
     }
 }
@@ -98,14 +98,13 @@ fn storey_line(s: &[u8], at: usize, held: bool) -> StoreyLine
     let vs = f.values;
     let r = storey_of(vs);
     StoreyLine {
-        fault: earlier(fields_fault(s, at, Tag::S, vs[2]), storey_fault(r)),
+        fault: earlier(fields_fault(s, at, Tag::S), storey_fault(r)),
         storey: r,
     }
 }
 
 // The M line at `at` by its fields and its record: fault 0 where neither is refused.
 fn member_fields(s: &[u8], at: usize) -> MemberLine
-    requires { ⌜ at + 209 ≤ length (now s) ⌝ }
     ensures { λ r. ⌜ MemberGood (now (s .entry)) at r ⌝ }
 {
     let f = read_fields(s, at, Tag::M);
@@ -143,7 +142,7 @@ fn member_checks(s: &[u8], at: usize, held: bool) -> MemberLine
     let vs = f.values;
     let m = member_of(vs);
     MemberLine {
-        fault: earlier(fields_fault(s, at, Tag::M, vs[2]), member_fault(m)),
+        fault: earlier(fields_fault(s, at, Tag::M), member_fault(m)),
         number: m.number,
     }
 }
@@ -331,12 +330,6 @@ pub(crate) fn member_at(s: &[u8], i: usize, m: usize) -> Member
     let f = read_fields(s, line_start(i, m), Tag::M);
     let vs = f.values;
     member_of(vs)
-}
-
-pub fn count_of(r: Storey) -> usize
-    ensures { λ n. ⌜ n ≡ r .count ⌝ }
-{
-    r.count as usize
 }
 
 // How many S lines an accepted file has; 0 of a refused one.

@@ -7,11 +7,11 @@ use mathlib.Core.Path.{_≡_, refl, sym, _∙_}
 use lib.Dec.{leb, eqb}
 use lib.ListN.{length, length-append}
 use borrow.Author.Tests.{eq-eqb, ne-eqb, eqb-true, leb-true}
-use Rattle.reading.specs.declared.records.Header.{Header}
-use Rattle.reading.specs.declared.records.Storey.{Storey}
-use Rattle.reading.specs.declared.records.Member.{Member}
-use Rattle.reading.proofs.Firsts.{last-of}
-use Rattle.reading.proofs.Validity.{clear}
+use Rattle.records.specs.declared.Header.{Header}
+use Rattle.records.specs.declared.Storey.{Storey}
+use Rattle.records.specs.declared.Member.{Member}
+use Rattle.records.proofs.Firsts.{last-of}
+use Rattle.records.proofs.Validity.{clear}
 use Rattle.storeys.specs.Storey.{publishedRules}
 use Rattle.storeys.specs.Building.{storeyIn, membersBefore, membersOf, tilted, buildingRisky, buildingFault, buildingFinding, buildingAnswerBy, placeIn, Answers}
 use Rattle.storeys.specs.declared.BuildingFinding.{BuildingFinding}
@@ -20,9 +20,9 @@ use Rattle.storeys.specs.declared.BuildingAnswer.the-variants as building-answe
 use Rattle.storeys.proofs.Refusals.{None, one, rest, in-order-clear}
 use Rattle.report.specs.declared.ReportAnswer.{ReportAnswer}
 use Rattle.report.specs.declared.ReportAnswer.the-variants.{Written, Refused}
-use Rattle.report.specs.Line.{stamped}
+use Rattle.columns.specs.Line.{stamped}
 use Rattle.report.specs.Sheet.{buildingLine, lineOf, storeyLines, storeysLines, sheet, sizeOf, Few, faultBy, lengthFault, reportFault, reportAnswer, bufferAfter}
-use Rattle.report.proofs.Stamps.{stamped-both, stamped-front}
+use Rattle.columns.proofs.Stamps.{stamped-both, stamped-front}
 use Rattle.report.proofs.Rows.{length-building-line, length-storey-lines}
 use Rattle.report.proofs.Survey.{storeys-most, members-most, before-end, part-length}
 use Rattle.storeys.proofs.BuildingRows.{none-before}

@@ -2,20 +2,20 @@
 use Prim.Native.Nat.{ℕ, _+_}
 use mathlib.Core.List.{List, [], _∷_, _++_}
 use mathlib.Core.Path.{_≡_, refl}
-use Rattle.reading.specs.Spelling.{column, spelled}
-use Rattle.reading.specs.First.{any}
-use Rattle.reading.specs.Records.{zeroForce}
-use Rattle.reading.specs.declared.records.Header.{Header}
-use Rattle.reading.specs.declared.records.Storey.{Storey}
-use Rattle.reading.specs.declared.records.Member.{Member}
+use Rattle.format.specs.Spelling.{column, spelled}
+use Rattle.records.specs.First.{any}
+use Rattle.records.specs.Records.{zeroForce}
+use Rattle.records.specs.declared.Header.{Header}
+use Rattle.records.specs.declared.Storey.{Storey}
+use Rattle.records.specs.declared.Member.{Member}
 use Rattle.members.specs.Class.{detailed, columnClass, wallClass, classOf}
 use Rattle.members.specs.Tables.{places, moments, rotations}
 use Rattle.members.specs.Limits.{interp, blend, columnA, columnB, columnC, wallRows, wallB, mLimitAt, rotationLimitAt}
 use Rattle.members.specs.Finding.{axial, moment, stress, hoops, mLimit, rotationLimit, mDropped, isOver, findingBy}
-use Rattle.reading.specs.Totals.{total, some}
+use Rattle.records.specs.Totals.{total, some}
 use Rattle.storeys.specs.Storey.{meetsWallShare, axialTotal, overShear, someOver, damaged, exceedsShare, riskyByDamage, storeyRisky, storeyFinding}
 use Rattle.storeys.specs.Building.{membersBefore, membersOf, riskyAt, tilted, someRisky, buildingRisky}
-use Rattle.report.specs.Line.{printedNumbers, line}
+use Rattle.columns.specs.Line.{printedNumbers, line}
 use Rattle.report.specs.Sheet.{memberLine, storeyLine, buildingLine, memberLines, storeyLines, storeysLines, sheet}
 
 abbrev header : Header

@@ -1,4 +1,3 @@
-pub mod Stamps
 pub mod Printing
 pub mod Rows
 pub mod Survey
@@ -7,4 +6,3 @@ pub mod Says
 pub mod Called
 pub mod Example
 pub mod Reordered
-pub mod Digits

@@ -6,12 +6,12 @@ use mathlib.Core.List.{List, [], _∷_, _++_, map, append-assoc, List·Permᴰ, 
 use mathlib.Core.Path.{_≡_, refl, ap, _∙_}
 use lib.Dec.{eqb}
 use lib.ListN.{length}
-use Rattle.reading.specs.First.{any}
-use Rattle.reading.specs.declared.records.Header.{Header}
-use Rattle.reading.specs.declared.records.Storey.{Storey}
-use Rattle.reading.specs.declared.records.Member.{Member}
+use Rattle.records.specs.First.{any}
+use Rattle.records.specs.declared.Header.{Header}
+use Rattle.records.specs.declared.Storey.{Storey}
+use Rattle.records.specs.declared.Member.{Member}
 use Rattle.members.specs.Finding.{axialRatioD, finding, flag}
-use Rattle.reading.specs.Totals.{total, some}
+use Rattle.records.specs.Totals.{total, some}
 use Rattle.storeys.specs.Storey.{publishedRules, wallShear, meetsWallShare, axialTotal, over, shearIfOver, overShear, someOver, damaged, riskyByDamage, storeyRisky, storeyFinding}
 use Rattle.storeys.specs.Building.{storeyIn, membersOf, riskyAt, tilted, someRisky, buildingRisky}
 use Rattle.report.specs.Sheet.{memberLine, storeyLine, buildingLine, memberLines, storeyLines, storeysLines, sheet}

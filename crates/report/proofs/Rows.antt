@@ -8,20 +8,20 @@ use mathlib.Core.Path.{_≡_, refl, sym, _∙_}
 use lib.ListN.{length, drop, length-append, drop-of-length-le}
 use lib.Seq.{drop-cons}
 use borrow.Author.Tests.{eq-eqb}
-use Rattle.reading.specs.First.{pick}
-use Rattle.reading.specs.Records.{memberFault, storeyFault}
-use Rattle.reading.specs.declared.records.Storey.{Storey}
-use Rattle.reading.specs.declared.records.Member.{Member}
-use Rattle.reading.proofs.Firsts.{pick-clear}
+use Rattle.records.specs.First.{pick}
+use Rattle.records.specs.Records.{memberFault, storeyFault}
+use Rattle.records.specs.declared.Storey.{Storey}
+use Rattle.records.specs.declared.Member.{Member}
+use Rattle.records.proofs.Firsts.{pick-clear}
 use Rattle.members.specs.Finding.{finding, knowledge}
 use Rattle.members.specs.declared.finding.Finding.{Finding}
 use Rattle.storeys.specs.declared.StoreyFinding.{StoreyFinding}
 use Rattle.storeys.specs.declared.StoreyAnswer.{StoreyAnswer}
 use Rattle.storeys.specs.Storey.{publishedRules, meetsWallShare, overShear, storeyFinding, countFault, knowledgeFault, shearFault, noMember, memberIn, rowFault, memberRowsFault, storeyCallFault, storeyAnswerBy, storeyAnswer}
 use Rattle.storeys.proofs.Refusals.{None, one, rest, in-order-clear, first-clear}
-use Rattle.report.specs.Line.{stamped}
+use Rattle.columns.specs.Line.{stamped}
 use Rattle.report.specs.Sheet.{memberColumns, storeyColumns, buildingColumns, memberLine, storeyLine, buildingLine, memberLines, storeyLines, findingIn}
-use Rattle.report.proofs.Stamps.{stamped-none, stamped-both, length-line}
+use Rattle.columns.proofs.Stamps.{stamped-none, stamped-both, length-line}
 
 -- ---- lengths
 pub length-member-line : (number : ℕ) (f : Finding) → length (memberLine number f) ≡ 86

@@ -18,8 +18,8 @@ use Rattle.storeys.specs.Storey.{publishedRules, memberRowsFault, storeyCallFau
 use Rattle.storeys.specs.Building.{buildingFault}
 use Rattle.walk.proofs.Fn.{Plain}
 use Rattle.walk.proofs.Slice.{R, taken, made}
-use Rattle.reading.proofs.Structs.{header, member, storey}
-use Rattle.report.specs.Line.{stamped}
+use Rattle.records.proofs.Structs.{header, member, storey}
+use Rattle.columns.specs.Line.{stamped}
 use Rattle.report.specs.Sheet.{memberLines, storeyLines, storeysLines, reportAnswer, bufferAfter}
 use Rattle.report.proofs.Structs.{reportjudgment}
 

@@ -8,25 +8,23 @@ use mathlib.Core.Path.{_≡_, refl, sym, _∙_}
 use lib.Dec.{leb}
 use lib.ListN.{length, take, drop}
 use borrow.Author.Tests.{eq-eqb, leb-true}
-use Rattle.reading.specs.First.{pick, every, first}
-use Rattle.reading.specs.Records.{headerValues, inRange, headerFault, storeyFault}
-use Rattle.reading.specs.Survey.{repeated}
-use Rattle.reading.specs.declared.records.Header.{Header}
-use Rattle.reading.specs.declared.records.Storey.{Storey}
-use Rattle.reading.specs.declared.records.Member.{Member}
-use Rattle.reading.specs.declared.records.Tag.the-variants.{B}
-use Rattle.reading.proofs.Below.{and-right, every-at}
-use Rattle.reading.proofs.Files.{count-most}
-use Rattle.reading.proofs.Validity.{clear}
-use Rattle.reading.specs.Totals.{total}
+use Rattle.records.specs.First.{pick, every, first}
+use Rattle.records.specs.Records.{headerValues, inRange, headerFault, storeyFault, repeated}
+use Rattle.records.specs.declared.Header.{Header}
+use Rattle.records.specs.declared.Storey.{Storey}
+use Rattle.records.specs.declared.Member.{Member}
+use Rattle.records.specs.declared.Tag.the-variants.{B}
+use Rattle.records.proofs.Below.{and-right, every-at}
+use Rattle.records.proofs.Validity.{count-most, clear}
+use Rattle.records.specs.Totals.{total}
 use Rattle.storeys.specs.Storey.{publishedRules, countFault, knowledgeFault, memberRowsFault, storeyCallFault}
 use Rattle.storeys.specs.Building.{storeyIn, membersBefore, membersOf, countsFault, storeyRowsFault, shearFaultAt, buildingFault}
 use Rattle.storeys.proofs.Refusals.{None, end, also, one, rest, in-order-clear, in-order-none, first-clear, count-clear}
 use Rattle.storeys.proofs.Accepted.{before-next, members-counted, known-level}
 use Rattle.storeys.proofs.BuildingRows.{next-within, part-is}
-use Rattle.report.specs.Line.{stamped}
+use Rattle.columns.specs.Line.{stamped}
 use Rattle.report.specs.Sheet.{storeyLines, storeysLines}
-use Rattle.report.proofs.Stamps.{stamped-none, stamped-both}
+use Rattle.columns.proofs.Stamps.{stamped-none, stamped-both}
 use Rattle.report.proofs.Rows.{length-storey-lines}
 
 before-all : (ss : List Storey) → membersBefore ss (length ss) ≡ total (λ s. s .count) ss

@@ -6,11 +6,11 @@ use mathlib.Core.List.{List, [], _∷_, _++_}
 use mathlib.Core.Path.{_≡_}
 use lib.Dec.{leb, eqb}
 use lib.ListN.{length, drop}
-use Rattle.reading.specs.First.{pick, inOrder}
-use Rattle.reading.specs.Records.{memberFault}
-use Rattle.reading.specs.declared.records.Header.{Header}
-use Rattle.reading.specs.declared.records.Storey.{Storey}
-use Rattle.reading.specs.declared.records.Member.{Member}
+use Rattle.records.specs.First.{pick, inOrder}
+use Rattle.records.specs.Records.{memberFault}
+use Rattle.records.specs.declared.Header.{Header}
+use Rattle.records.specs.declared.Storey.{Storey}
+use Rattle.records.specs.declared.Member.{Member}
 use Rattle.members.specs.Class.{code}
 use Rattle.members.specs.Finding.{finding, flag, knowledge, Returned, refused}
 use Rattle.members.specs.declared.finding.Finding.{Finding}
@@ -23,7 +23,7 @@ use Rattle.storeys.specs.declared.BuildingAnswer.{BuildingAnswer}
 use Rattle.storeys.specs.declared.BuildingAnswer.the-variants as building-answer
 use Rattle.report.specs.declared.ReportAnswer.{ReportAnswer}
 use Rattle.report.specs.declared.ReportAnswer.the-variants.{Written, Refused}
-use Rattle.report.specs.Line.{line}
+use Rattle.columns.specs.Line.{line}
 
 -- "number, class (1 to 3 columns A to C, 4 and 5 walls A and B), m, its limit, rotation, its limit, over (0 or 1)"
 abbrev pub memberColumns : ℕ → Finding → List ℕ

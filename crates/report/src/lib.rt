@@ -1,6 +1,5 @@
 // Writing the report: what the call answers (document 01, "The printed sheet").
 
-pub mod line;
 pub mod printed;
 pub mod refusal_line;
 pub mod sheet;

@@ -2,32 +2,23 @@
 -- the building answers the verdict.
 use Prim.Native.Nat.{ℕ, zero, suc, _+_, _≤_, _<_}
 use native.Mathlib.Omega.{arith}
-use mathlib.Core.Bool.{Bool, true, false, _||_}
+use mathlib.Core.Bool.{true}
 use mathlib.Core.List.{List, [], _∷_}
-use mathlib.Core.Path.{_≡_, refl, sym, ap, _∙_}
-use lib.Dec.{eqb}
+use mathlib.Core.Path.{_≡_, refl}
 use lib.ListN.{length, drop, length-take, length-drop}
-use borrow.Author.Tests.{eqb-true, eq-eqb, leb-true}
-use Rattle.reading.specs.First.{pick, every, first}
-use Rattle.reading.specs.Records.{inRange, headerValues, storeyValues, headerFault, storeyFault, memberFault}
-use Rattle.reading.specs.Survey.{repeated}
-use Rattle.reading.specs.declared.records.Header.{Header}
-use Rattle.reading.specs.declared.records.Storey.{Storey}
-use Rattle.reading.specs.declared.records.Member.{Member}
-use Rattle.reading.specs.declared.records.Tag.the-variants.{B, S}
-use Rattle.reading.proofs.Below.{and-left, every-at}
-use Rattle.reading.proofs.Validity.{clear}
-use Rattle.members.specs.Finding.{knowledge, answerBy}
-use Rattle.storeys.specs.declared.BuildingFinding.{BuildingFinding}
-use Rattle.storeys.specs.declared.BuildingAnswer.{BuildingAnswer}
-use Rattle.storeys.specs.declared.BuildingAnswer.the-variants.{Judged, Refused}
-use Rattle.reading.specs.Totals.{total}
-use Rattle.storeys.specs.Storey.{Rules, meetsWallShare, over, overShear, storeyRisky, storeyFinding, countFault, knowledgeFault, shearFault, noMember, memberIn, rowFault, memberRowsFault, storeyCallFault, storeyAnswerBy}
-use Rattle.storeys.specs.Building.{storeyIn, membersBefore, membersOf, countsFault, storeyRowsFault, shearFaultAt, buildingFault, buildingRisky, buildingFinding, buildingAnswerBy, placeIn, returnedBuilding}
-use Rattle.storeys.specs.Demand3.{Survey, knowledgeOf, StoreyMembers, storeyMembersAt, storeysMembers, Accepted, overIn, riskyIn, buildingRiskyIn}
-use Rattle.storeys.proofs.Pairs.{All}
-use Rattle.storeys.proofs.Tests.{never}
-use Rattle.storeys.proofs.Refusals.{None, end, also, one, rest, in-order-clear, in-order-none, first-clear, count-clear, all-rows, all-listed}
+use Rattle.records.specs.First.{every, first}
+use Rattle.records.specs.Records.{inRange, headerValues, headerFault, storeyFault, repeated}
+use Rattle.records.specs.declared.Header.{Header}
+use Rattle.records.specs.declared.Storey.{Storey}
+use Rattle.records.specs.declared.Member.{Member}
+use Rattle.records.specs.declared.Tag.the-variants.{B}
+use Rattle.records.proofs.Below.{every-at}
+use Rattle.records.proofs.Validity.{clear}
+use Rattle.members.specs.Finding.{knowledge}
+use Rattle.records.specs.Totals.{total}
+use Rattle.storeys.specs.Storey.{Rules, countFault, memberRowsFault}
+use Rattle.storeys.specs.Building.{storeyIn, membersBefore, membersOf, countsFault, storeyRowsFault, shearFaultAt, buildingFault}
+use Rattle.storeys.proofs.Refusals.{None, one, rest, in-order-clear, first-clear, count-clear}
 
 -- the members of a storey lie within the rows
 before-none : (i : ℕ) → membersBefore [] i ≡ 0
@@ -52,29 +43,13 @@ members-counted ss ms i e =
     let b = membersBefore ss i in
     omega (arith, e, length-take (storeyIn ss i .count) (drop b ms), length-drop b ms, before-within ss (suc i))
 
--- a storey on which the call refuses nothing
-pub record Sound (rules : Rules) (k : ℕ) (f : StoreyMembers) : Type 0 where
-  pub known : knowledge k ≡ true
-  pub count : f .storey .count ≡ length (f .members)
-  pub storey : storeyFault (f .storey) ≡ 0
-  pub members : memberRowsFault (f .members) ≡ 0
-  pub shear : shearFault (overShear rules k (meetsWallShare (f .storey .shear) (f .members)) (f .members)) ≡ 0
-
 -- k is one of the two levels
 pub header-known : (h : Header) → headerFault h ≡ 0 → knowledge (h .knowledge) ≡ true
 unfolding headerFault
 header-known h e = every-at (inRange B (headerValues h)) 6 0 (clear (every (inRange B (headerValues h)) 6) _ 3 e (omega arith) .0) (omega arith)
 
-pub level-positive : (k : ℕ) → knowledge k ≡ true → 0 < k
-level-positive k e = go (eqb k 90) (eqb k 100) refl refl e
-  where
-    go : (s t : Bool) → eqb k 90 ≡ s → eqb k 100 ≡ t → (s || t) ≡ true → 0 < k
-    go true t f g h = omega (arith, eqb-true k 90 f)
-    go false true f g h = omega (arith, eqb-true k 100 g)
-    go false false f g h = absurd (never h)
-
 module _ (rules : Rules) (h : Header) (ss : List Storey) (ms : List Member) (none : buildingFault rules h ss ms ≡ 0) where
-  checks : None (countsFault h ss ms ∷ headerFault h ∷ first 0 (λ n. n) (storeyRowsFault ss ms) (length ss) ∷ first 0 (λ n. n) (shearFaultAt rules (h .knowledge) ss ms) (length ss) ∷ [])
+  pub checks : None (countsFault h ss ms ∷ headerFault h ∷ first 0 (λ n. n) (storeyRowsFault ss ms) (length ss) ∷ first 0 (λ n. n) (shearFaultAt rules (h .knowledge) ss ms) (length ss) ∷ [])
   unfolding buildingFault
   checks = in-order-clear _ none
 
@@ -82,83 +57,12 @@ module _ (rules : Rules) (h : Header) (ss : List Storey) (ms : List Member) (non
   unfolding countsFault
   counts = in-order-clear _ (one checks)
 
-  total-counted : total (λ s. s .count) ss ≡ length ms
+  pub total-counted : total (λ s. s .count) ss ≡ length ms
   total-counted = count-clear (total (λ s. s .count) ss) (length ms) (one (rest counts))
 
   pub known-level : knowledge (h .knowledge) ≡ true
   known-level = header-known h (one (rest checks))
 
-  rows : (i : ℕ) → i < length ss → None (storeyFault (storeyIn ss i) ∷ repeated (λ j. storeyIn ss j .number) i ∷ memberRowsFault (membersOf ss ms i) ∷ [])
+  pub rows : (i : ℕ) → i < length ss → None (storeyFault (storeyIn ss i) ∷ repeated (λ j. storeyIn ss j .number) i ∷ memberRowsFault (membersOf ss ms i) ∷ [])
   unfolding storeyRowsFault
   rows i l = in-order-clear _ (first-clear (storeyRowsFault ss ms) (length ss) (one (rest (rest checks))) i l)
-
-  sound-at : (i : ℕ) → i < length ss → Sound rules (h .knowledge) (record { storey = storeyIn ss i; members = membersOf ss ms i })
-  unfolding shearFaultAt
-  sound-at i l =
-      record {
-        known = known-level;
-        count = members-counted ss ms i total-counted;
-        storey = one (rows i l);
-        members = one (rest (rest (rows i l)));
-        shear = first-clear (shearFaultAt rules (h .knowledge) ss ms) (length ss) (one (rest (rest (rest checks)))) i l;
-      }
-
-  verdict-at : (place : ℕ) → buildingRiskyIn (buildingAnswerBy rules h ss ms place) ≡ buildingRisky rules h ss ms
-  unfolding buildingAnswerBy buildingFinding
-  verdict-at place = rw (eq-eqb _ _ none)
-
--- a sound storey has members, and they are good records
-storey-members : (s : Storey) → storeyFault s ≡ 0 → 1 ≤ s .count
-unfolding storeyFault
-storey-members s e =
-    let c = every-at (inRange S (storeyValues s)) 3 2 (clear (every (inRange S (storeyValues s)) 3) 0 3 e (omega arith) .0) (omega arith) in
-    leb-true 1 (s .count) (and-left _ _ c)
-
-module _ (rules : Rules) (k : ℕ) (f : StoreyMembers) (sound : Sound rules k f) where
-  pub has-members : 0 < length (f .members)
-  has-members = omega (arith, sound .count, storey-members (f .storey) (sound .storey))
-
-  row : (j : ℕ) → j < length (f .members) → None (memberFault (memberIn (f .members) j) ∷ repeated (λ e. memberIn (f .members) e .number) j ∷ [])
-  unfolding memberRowsFault rowFault
-  row j l = in-order-clear _ (first-clear (rowFault (f .members)) (length (f .members)) (sound .members) j l)
-
-  pub good-members : All (λ m. memberFault m ≡ 0) (f .members)
-  good-members = all-rows (λ m. memberFault m ≡ 0) noMember (f .members) (λ j l. one (row j l))
-
-  -- so the calls on it and on its members answer their findings
-  call-clear : storeyCallFault rules k (f .storey) (f .members) ≡ 0
-  unfolding storeyCallFault
-  call-clear =
-      let count : countFault (f .storey .count) (length (f .members)) ≡ 0 = rw (eq-eqb _ _ (sound .count)) in
-      let known : knowledgeFault k ≡ 0 = rw (sound .known) in
-      in-order-none (also count (also known (also (sound .storey) (also (sound .members) (also (sound .shear) end)))))
-
-  pub risky-found : riskyIn (storeyAnswerBy rules k (f .storey) (f .members)) ≡ storeyRisky rules k (f .storey .shear) (f .members)
-  unfolding storeyAnswerBy storeyFinding
-  risky-found = rw (eq-eqb _ _ call-clear)
-
-  pub over-found : (met : Bool) (m : Member) → memberFault m ≡ 0 → overIn (answerBy (rules .limits) k met m) ≡ over rules k met m
-  unfolding answerBy
-  over-found met m e = rw (sound .known, eq-eqb _ _ e)
-
--- an accepted survey
-clear-by : (t : Bool) (fault : ℕ) (f : BuildingFinding) → eqb fault 0 ≡ t → returnedBuilding (pick t (Judged f) (Refused fault)) .refusal ≡ 0 → fault ≡ 0
-clear-by true fault f e h = eqb-true fault 0 e
-clear-by false fault f e h = h
-
-module _ (rules : Rules) (a : Survey) (r : BuildingAnswer) (acc : Accepted rules a r) where
-  pub building-clear : buildingFault rules (a .header) (a .storeys) (a .members) ≡ 0
-  unfolding buildingAnswerBy
-  building-clear =
-      let e = ap (λ x. returnedBuilding x .refusal) (acc .answers .same) in
-      clear-by (eqb (buildingFault rules (a .header) (a .storeys) (a .members)) 0) _ _ refl (sym e ∙ acc .no-refusal)
-
-  pub verdict-found : buildingRiskyIn r ≡ buildingRisky rules (a .header) (a .storeys) (a .members)
-  verdict-found = ap buildingRiskyIn (acc .answers .same) ∙ verdict-at rules (a .header) (a .storeys) (a .members) building-clear (placeIn r)
-
-  pub level-known : knowledge (knowledgeOf a) ≡ true
-  level-known = known-level rules (a .header) (a .storeys) (a .members) building-clear
-
-  pub sound-storeys : All (Sound rules (knowledgeOf a)) (storeysMembers a)
-  sound-storeys =
-      all-listed (Sound rules (knowledgeOf a)) (storeyMembersAt a) (length (a .storeys)) (sound-at rules (a .header) (a .storeys) (a .members) building-clear)

@@ -8,17 +8,17 @@ use mathlib.Core.Path.{_≡_, refl, ap, sym, _∙_}
 use lib.Dec.{ltb, eqb}
 use lib.ListN.{length}
 use borrow.Author.Tests.{eqb-true, eqb-false, eq-eqb, ne-eqb, lt-ltb}
-use Rattle.reading.specs.First.{pick, any, inOrder, first}
-use Rattle.reading.specs.Records.{headerFault}
-use Rattle.reading.specs.declared.records.Header.{Header}
-use Rattle.reading.specs.declared.records.Storey.{Storey}
-use Rattle.reading.specs.declared.records.Member.{Member}
-use Rattle.reading.proofs.Firsts.{first-none, first-more, last-of}
-use Rattle.reading.proofs.Below.{any-none, any-more, any-holds}
+use Rattle.records.specs.First.{pick, any, inOrder, first}
+use Rattle.records.specs.Records.{headerFault}
+use Rattle.records.specs.declared.Header.{Header}
+use Rattle.records.specs.declared.Storey.{Storey}
+use Rattle.records.specs.declared.Member.{Member}
+use Rattle.records.proofs.Firsts.{first-none, first-more, last-of}
+use Rattle.records.proofs.Below.{any-none, any-more, any-holds}
 use Rattle.storeys.specs.declared.BuildingAnswer.{BuildingAnswer}
 use Rattle.storeys.specs.declared.BuildingAnswer.the-variants.{Judged, Refused}
 use Rattle.storeys.specs.declared.verdict.Verdict.{Verdict}
-use Rattle.reading.specs.Totals.{total}
+use Rattle.records.specs.Totals.{total}
 use Rattle.storeys.specs.Storey.{publishedRules, countFault}
 use Rattle.storeys.specs.Building.{riskyAt, countsFault, storeyRowsFault, shearFaultAt, buildingFault, tilted, someRisky, buildingRisky, buildingFinding, buildingAnswerBy, PlaceOk, nowhere, named, Answers}
 use Rattle.storeys.specs.Verdict.{headerCallFault, placeAt, verdictOf, verdictAnswer, Counted, GoodRows}

@@ -8,18 +8,17 @@ use mathlib.Core.Path.{_≡_, refl, ap, sym, _∙_}
 use lib.Dec.{eqb}
 use lib.ListN.{length, take, drop}
 use borrow.Author.Tests.{eqb-true, eqb-false, eq-eqb, ne-eqb}
-use Rattle.reading.specs.First.{pick, any, inOrder, first}
-use Rattle.reading.specs.Records.{storeyFault}
-use Rattle.reading.specs.Survey.{repeated}
-use Rattle.reading.specs.declared.records.Storey.{Storey}
-use Rattle.reading.specs.declared.records.Member.{Member}
-use Rattle.reading.proofs.Firsts.{first-none, first-more, first-next, first-kept, in-order-last, pick-zero, pick-other}
-use Rattle.reading.proofs.Below.{any-none, any-more, any-holds}
-use Rattle.reading.proofs.Files.{count-most}
+use Rattle.records.specs.First.{pick, any, inOrder, first}
+use Rattle.records.specs.Records.{storeyFault, repeated}
+use Rattle.records.specs.declared.Storey.{Storey}
+use Rattle.records.specs.declared.Member.{Member}
+use Rattle.records.proofs.Firsts.{first-none, first-more, first-next, first-kept, in-order-last, pick-zero, pick-other}
+use Rattle.records.proofs.Below.{any-none, any-more, any-holds}
+use Rattle.records.proofs.Validity.{count-most}
 use Rattle.members.specs.Finding.{knowledge}
 use Rattle.storeys.specs.declared.StoreyFinding.{StoreyFinding}
 use Rattle.storeys.specs.declared.verdict.Verdict.{Verdict}
-use Rattle.reading.specs.Totals.{total}
+use Rattle.records.specs.Totals.{total}
 use Rattle.storeys.specs.Storey.{publishedRules, memberRowsFault, storeyFinding}
 use Rattle.storeys.specs.Tally.{Rows}
 use Rattle.storeys.specs.Building.{storeyIn, membersBefore, membersOf, riskyAt, storeyRowsFault, shearFaultAt}

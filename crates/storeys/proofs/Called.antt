@@ -7,15 +7,14 @@ use mathlib.Core.Path.{_≡_, refl, ap, sym, _∙_}
 use lib.Dec.{leb, eqb}
 use lib.ListN.{length, getD}
 use borrow.Author.Tests.{ne-eqb, eqb-true, leb-true}
-use Rattle.reading.specs.First.{pick, every, inOrder}
-use Rattle.reading.specs.Records.{storeyFault, storeyValues, inRange}
-use Rattle.reading.specs.declared.records.Storey.{Storey}
-use Rattle.reading.specs.declared.records.Member.{Member}
-use Rattle.reading.specs.declared.records.Tag.the-variants.{S}
-use Rattle.reading.proofs.Below.{and-right, every-at}
-use Rattle.reading.proofs.Firsts.{in-order-last, pick-zero, pick-other, pick-clear, pick-both}
-use Rattle.reading.proofs.Files.{count-most}
-use Rattle.reading.proofs.Validity.{clear}
+use Rattle.records.specs.First.{pick, every, inOrder}
+use Rattle.records.specs.Records.{storeyFault, storeyValues, inRange}
+use Rattle.records.specs.declared.Storey.{Storey}
+use Rattle.records.specs.declared.Member.{Member}
+use Rattle.records.specs.declared.Tag.the-variants.{S}
+use Rattle.records.proofs.Below.{and-right, every-at}
+use Rattle.records.proofs.Firsts.{in-order-last, pick-zero, pick-other, pick-clear, pick-both}
+use Rattle.records.proofs.Validity.{count-most, clear}
 use Rattle.members.specs.Units.{ratioCap}
 use Rattle.members.specs.Finding.{axialRatioD, knowledge}
 use Rattle.members.specs.Class.{isWall}
@@ -23,7 +22,7 @@ use Rattle.storeys.specs.declared.StoreyFinding.{StoreyFinding}
 use Rattle.storeys.specs.declared.StoreyAnswer.{StoreyAnswer}
 use Rattle.storeys.specs.declared.StoreyAnswer.the-variants.{Refused}
 use Rattle.storeys.specs.declared.row.Tally.{Tally}
-use Rattle.reading.specs.Totals.{total}
+use Rattle.records.specs.Totals.{total}
 use Rattle.storeys.specs.Storey.{publishedRules, wallShear, meetsWallShare, axialTotal, over, shearIfOver, overShear, storeyRisky, riskyByDamage, storeyFinding, countFault, knowledgeFault, shearFault, memberIn, noMember, memberRowsFault, storeyCallFault, storeyAnswerBy, storeyAnswer}
 use Rattle.storeys.specs.Tally.{tallyOf, Rows, Small, foundBy, headFault, judgedBy}
 use Rattle.storeys.proofs.Rows.{nd-most}

@@ -1,14 +1,5 @@
-pub mod Partners
-pub mod Tests
-pub mod Pairs
-pub mod Share
-pub mod Damage
-pub mod Storeys
 pub mod Refusals
 pub mod Accepted
-pub mod Demand3
-pub mod Example
-pub mod Places
 pub mod Rows
 pub mod Loops
 pub mod Called

@@ -8,17 +8,17 @@ use mathlib.Core.Path.{_≡_, refl, ap, sym, _∙_}
 use lib.Dec.{eqb}
 use lib.ListN.{length, drop, getD, drop-of-length-le}
 use lib.Seq.{drop-cons}
-use Rattle.reading.specs.First.{pick, any, inOrder, first}
-use Rattle.reading.specs.Records.{memberFault}
-use Rattle.reading.specs.Valid.{Valid}
-use Rattle.reading.specs.declared.records.Member.{Member}
-use Rattle.reading.proofs.Below.{any-none, any-more, any-holds}
-use Rattle.reading.proofs.Firsts.{first-none, first-next, first-kept, first-clear, pick-clear}
-use Rattle.reading.proofs.Validity.{valid}
+use Rattle.records.specs.First.{pick, any, inOrder, first}
+use Rattle.records.specs.Records.{memberFault}
+use Rattle.records.specs.Valid.{Valid}
+use Rattle.records.specs.declared.Member.{Member}
+use Rattle.records.proofs.Below.{any-none, any-more, any-holds}
+use Rattle.records.proofs.Firsts.{first-none, first-next, first-kept, first-clear, pick-clear}
+use Rattle.records.proofs.Validity.{valid}
 use Rattle.members.specs.Units.{ratioCap}
 use Rattle.members.specs.Class.{isWall}
 use Rattle.members.specs.Finding.{axialRatioD, knowledge, flag}
-use Rattle.reading.specs.Totals.{total, some}
+use Rattle.records.specs.Totals.{total, some}
 use Rattle.storeys.specs.Storey.{publishedRules, wallShear, axialTotal, over, shearIfOver, overShear, someOver, damaged, memberIn, noMember, rowFault, memberRowsFault}
 use Rattle.storeys.specs.declared.row.Tally.{Tally}
 use Rattle.storeys.specs.Tally.{weightOf, noTally, added, tallyOf, Rows, AddsUp}

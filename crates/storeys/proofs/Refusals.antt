@@ -1,18 +1,15 @@
 -- Where there is no refusal, none of the checks refuses.
-use Prim.Native.Nat.{ℕ, zero, suc, _<_}
+use Prim.Native.Nat.{ℕ, _<_}
 use native.Mathlib.Omega.{arith}
 use mathlib.Core.Bool.{Bool, true, false}
-use mathlib.Core.List.{List, [], _∷_, _++_}
+use mathlib.Core.List.{List, [], _∷_}
 use mathlib.Core.Path.{_≡_, refl}
 use lib.Dec.{eqb}
-use lib.ListN.{length, getD}
 use borrow.Author.Tests.{eqb-true, eqb-false, eq-eqb}
-use Rattle.reading.specs.First.{pick, inOrder, first}
-use Rattle.reading.specs.Survey.{listed}
-use Rattle.reading.proofs.Firsts as Firsts
-use Rattle.reading.proofs.Validity.{clear}
+use Rattle.records.specs.First.{pick, inOrder, first}
+use Rattle.records.proofs.Firsts as Firsts
+use Rattle.records.proofs.Validity.{clear}
 use Rattle.storeys.specs.Storey.{countFault}
-use Rattle.storeys.proofs.Pairs.{All, empty, next}
 
 -- the first of two refusals is none
 chosen-clear : (t : Bool) (a later : ℕ) → eqb a 0 ≡ t → pick t later a ≡ 0 → (a ≡ 0) × (later ≡ 0)
@@ -45,17 +42,3 @@ first-clear f n e i h = Firsts.first-clear 0 (λ r. r) f n i e h
 
 pub count-clear : (count rows : ℕ) → countFault count rows ≡ 0 → count ≡ rows
 count-clear count rows e = eqb-true count rows (clear (eqb count rows) 0 1 e (omega arith) .0)
-
--- what holds of each place of a list holds of all its elements
-pub all-rows : {A : Type 0} (P : A → Type 0) (d : A) (xs : List A) → ((j : ℕ) → j < length xs → P (getD xs j d)) → All P xs
-all-rows P d [] h = empty
-all-rows P d (x ∷ xs) h = next (h 0 (omega arith)) (all-rows P d xs (λ j l. h (suc j) (omega arith)))
-
-all-after : {A : Type 0} (P : A → Type 0) (xs : List A) (x : A) → All P xs → P x → All P (xs ++ (x ∷ []))
-all-after P [] x a h = next h empty
-all-after P (y ∷ xs) x (next k a) h = next k (all-after P xs x a h)
-
-pub all-listed : {A : Type 0} (P : A → Type 0) (f : ℕ → A) (n : ℕ) → ((i : ℕ) → i < n → P (f i)) → All P (listed f n)
-unfolding listed
-all-listed P f zero h = empty
-all-listed P f (suc n) h = all-after P (listed f n) (f n) (all-listed P f n (λ i l. h i (omega arith))) (h n (omega arith))

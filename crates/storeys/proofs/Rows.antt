@@ -6,14 +6,14 @@ use mathlib.Core.Bool.{Bool, true, false, _&&_, _||_, or-true, or-false}
 use mathlib.Core.List.{[], _∷_}
 use mathlib.Core.Path.{_≡_, sym, ap, _∙_}
 use lib.Dec.{leb, ltb}
-use Rattle.reading.specs.First.{inOrder}
-use Rattle.reading.proofs.Firsts.{last-of, pick-zero, pick-other}
+use Rattle.records.specs.First.{inOrder}
+use Rattle.records.proofs.Firsts.{last-of, pick-zero, pick-other}
 use Rattle.storeys.specs.Storey.{exceedsShare, publishedRules}
 use Rattle.storeys.specs.declared.row.Tally.{Tally}
 use Rattle.storeys.specs.Tally.{weightOf, riskyBy, added, addedBy, AddsUp, AddsNumbers}
-use Rattle.reading.specs.Records.{memberFault}
-use Rattle.reading.specs.declared.records.Member.{Member}
-use Rattle.reading.proofs.Validity.{valid}
+use Rattle.records.specs.Records.{memberFault}
+use Rattle.records.specs.declared.Member.{Member}
+use Rattle.records.proofs.Validity.{valid}
 use Rattle.members.specs.Units.{ratioCap}
 use Rattle.members.specs.declared.finding.Finding.{Finding}
 use Rattle.members.specs.declared.finding.MemberAnswer.{MemberAnswer}

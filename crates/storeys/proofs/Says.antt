@@ -11,17 +11,17 @@ use borrow.Fn.Kinds.{rNum, rBool}
 use borrow.Kind.Num.{pNum}
 use borrow.Kind.Bool.{pBool}
 use borrow.Kind.ShrSlice.{pShrS}
-use Rattle.reading.specs.First.{pick, any, first}
-use Rattle.reading.specs.Records.{storeyFault}
+use Rattle.records.specs.First.{pick, any, first}
+use Rattle.records.specs.Records.{storeyFault}
 use Rattle.members.specs.Finding.{knowledge}
-use Rattle.reading.specs.Totals.{total}
+use Rattle.records.specs.Totals.{total}
 use Rattle.storeys.specs.Storey.{publishedRules, wallShear, memberIn, memberRowsFault, storeyFinding, storeyAnswer}
 use Rattle.storeys.specs.Tally.{tallyOf, Rows}
 use Rattle.storeys.specs.Building.{storeyIn, storeyRowsFault, Answers as Answered}
 use Rattle.storeys.specs.Verdict.{verdictOf, Counted, GoodRows}
 use Rattle.walk.proofs.Fn.{Plain}
 use Rattle.walk.proofs.Slice.{R, taken, made}
-use Rattle.reading.proofs.Structs.{header, member, storey}
+use Rattle.records.proofs.Structs.{header, member, storey}
 use Rattle.storeys.proofs.Structs.{tally as tallied, storeyfinding, storeyjudgment, verdict, buildingjudgment}
 
 abbrev pub repeat-fault : Plain {n = 1} (pShrS (R member) 0 tt ∷ pNum w64 ∷ pNum w64 ∷ []) (rNum w64)

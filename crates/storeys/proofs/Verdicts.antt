@@ -6,7 +6,7 @@ use mathlib.Core.Bool.{Bool, true, false}
 use mathlib.Core.Path.{_≡_, refl, sym}
 use lib.Dec.{ltb}
 use borrow.Author.Tests.{ltb-true, ltb-false, lt-ltb, le-ltb}
-use Rattle.reading.specs.declared.records.Header.{Header}
+use Rattle.records.specs.declared.Header.{Header}
 use Rattle.storeys.specs.Building.{tilted}
 
 pub tilt-first : (h : Header) → 25_000 < h .tilt1 → true ≡ tilted h

@@ -4,11 +4,10 @@ use mathlib.Core.Bool.{Bool, _&&_, _||_}
 use mathlib.Core.List.{List, [], _∷_}
 use lib.Dec.{leb, ltb, eqb}
 use lib.ListN.{length, getD}
-use Rattle.reading.specs.First.{pick, inOrder, first}
-use Rattle.reading.specs.Records.{storeyFault, memberFault}
-use Rattle.reading.specs.Survey.{repeated}
-use Rattle.reading.specs.declared.records.Storey.{Storey}
-use Rattle.reading.specs.declared.records.Member.{Member}
+use Rattle.records.specs.First.{pick, inOrder, first}
+use Rattle.records.specs.Records.{storeyFault, memberFault, repeated}
+use Rattle.records.specs.declared.Storey.{Storey}
+use Rattle.records.specs.declared.Member.{Member}
 use Rattle.members.specs.Units.{shareFrom, shareTo}
 use Rattle.members.specs.Class.{isWall}
 use Rattle.members.specs.Tables.{two, published, orderedSet}
@@ -18,7 +17,7 @@ use Rattle.members.specs.declared.tables.LimitSet.{LimitSet}
 use Rattle.storeys.specs.declared.StoreyFinding.{StoreyFinding}
 use Rattle.storeys.specs.declared.StoreyAnswer.{StoreyAnswer}
 use Rattle.storeys.specs.declared.StoreyAnswer.the-variants.{Judged, Refused}
-use Rattle.reading.specs.Totals.{total, some}
+use Rattle.records.specs.Totals.{total, some}
 
 -- what a survey is judged by: the limits of the members, and the axial ratios per member between which the allowed share falls
 pub record Rules : Type 0 where

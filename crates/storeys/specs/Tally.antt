@@ -5,10 +5,10 @@ use mathlib.Core.List.{List, [], _∷_}
 use mathlib.Core.Path.{_≡_}
 use lib.Dec.{leb, ltb, eqb}
 use lib.ListN.{length}
-use Rattle.reading.specs.First.{pick, inOrder}
-use Rattle.reading.specs.Records.{storeyFault, memberFault}
-use Rattle.reading.specs.declared.records.Storey.{Storey}
-use Rattle.reading.specs.declared.records.Member.{Member}
+use Rattle.records.specs.First.{pick, inOrder}
+use Rattle.records.specs.Records.{storeyFault, memberFault}
+use Rattle.records.specs.declared.Storey.{Storey}
+use Rattle.records.specs.declared.Member.{Member}
 use Rattle.members.specs.Units.{ratioCap}
 use Rattle.members.specs.Finding.{axialRatioD, flag, knowledge}
 use Rattle.storeys.specs.declared.StoreyAnswer.{StoreyAnswer}

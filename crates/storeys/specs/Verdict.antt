@@ -5,17 +5,17 @@ use mathlib.Core.List.{List, [], _∷_}
 use mathlib.Core.Path.{_≡_}
 use lib.Dec.{ltb, eqb}
 use lib.ListN.{length}
-use Rattle.reading.specs.First.{pick, inOrder, first}
-use Rattle.reading.specs.Records.{headerFault}
-use Rattle.reading.specs.declared.records.Header.{Header}
-use Rattle.reading.specs.declared.records.Storey.{Storey}
-use Rattle.reading.specs.declared.records.Member.{Member}
+use Rattle.records.specs.First.{pick, inOrder, first}
+use Rattle.records.specs.Records.{headerFault}
+use Rattle.records.specs.declared.Header.{Header}
+use Rattle.records.specs.declared.Storey.{Storey}
+use Rattle.records.specs.declared.Member.{Member}
 use Rattle.members.specs.Finding.{knowledge}
 use Rattle.storeys.specs.declared.StoreyFinding.{StoreyFinding}
 use Rattle.storeys.specs.declared.BuildingAnswer.{BuildingAnswer}
 use Rattle.storeys.specs.declared.BuildingAnswer.the-variants.{Judged, Refused}
 use Rattle.storeys.specs.declared.verdict.Verdict.{Verdict}
-use Rattle.reading.specs.Totals.{total}
+use Rattle.records.specs.Totals.{total}
 use Rattle.storeys.specs.Storey.{publishedRules, countFault, shearFault}
 use Rattle.storeys.specs.Building.{riskyAt, storeyRowsFault, shearFaultAt, tilted}
 

@@ -3,8 +3,8 @@ ghost use mathlib.Core.Path.{_≡_};
 ghost use Prim.Native.Nat.{ℕ, _≤_};
 ghost use lib.Dec.{eqb};
 ghost use lib.ListN.{length};
-ghost use Rattle.reading.specs.First.{pick, any, first};
-ghost use Rattle.reading.specs.Totals.{total};
+ghost use Rattle.records.specs.First.{pick, any, first};
+ghost use Rattle.records.specs.Totals.{total};
 ghost use Rattle.storeys.specs.Storey.{publishedRules};
 ghost use Rattle.storeys.specs.Building.{storeyIn, storeyRowsFault, Answers};
 ghost use Rattle.storeys.specs.Verdict.{verdictOf, Counted, GoodRows};
@@ -20,10 +20,10 @@ use crate::verdict::level_of;
 use crate::verdict::no_verdict;
 use crate::verdict::noted;
 use crate::verdict::refused_building;
-use reading::records::Header;
-use reading::records::Member;
-use reading::records::Storey;
-use reading::survey::count_of;
+use records::Header;
+use records::Member;
+use records::Storey;
+use records::numbers::count_of;
 
 // Whether the counts of the storeys add up to `rows`. Each count is taken from the rows still left, so that nothing can overflow.
 fn counts_fit(storeys: &[Storey], rows: usize) -> bool

@@ -3,8 +3,8 @@ ghost use mathlib.Core.Path.{_≡_};
 ghost use mathlib.Core.List.{[], _∷_};
 ghost use Prim.Native.Nat.{_+_, _*_, _≤_};
 ghost use lib.Dec.{leb};
-ghost use Rattle.reading.specs.First.{inOrder};
-ghost use Rattle.reading.specs.Records.{storeyFault, memberFault};
+ghost use Rattle.records.specs.First.{inOrder};
+ghost use Rattle.records.specs.Records.{storeyFault, memberFault};
 ghost use Rattle.storeys.specs.Storey.{publishedRules, wallShear, exceedsShare};
 ghost use Rattle.storeys.specs.Tally.{weightOf, noTally, added, addedBy, AddsUp, AddsNumbers, headFault, foundBy, judgedBy, riskyBy, Small};
 use crate::StoreyAnswer;
@@ -17,10 +17,10 @@ use members::finding::known;
 use members::tables::SHARE_FALL;
 use members::tables::SHARE_FROM;
 use members::tables::SHARE_TO;
-use reading::ranges::member_fault;
-use reading::ranges::storey_fault;
-use reading::records::Member;
-use reading::records::Storey;
+use records::Member;
+use records::Storey;
+use records::ranges::member_fault;
+use records::ranges::storey_fault;
 
 // The largest P that is judged; a larger one is refused by 10.
 pub(crate) const OVER_SHEAR_MOST: u64 = 9_999_999_999;

@@ -4,10 +4,10 @@ ghost use mathlib.Core.Bool.{true};
 ghost use Prim.Native.Nat.{ℕ, _≤_};
 ghost use lib.Dec.{eqb};
 ghost use lib.ListN.{length};
-ghost use Rattle.reading.specs.First.{pick, any};
-ghost use Rattle.reading.specs.Records.{storeyFault};
+ghost use Rattle.records.specs.First.{pick, any};
+ghost use Rattle.records.specs.Records.{storeyFault};
 ghost use Rattle.members.specs.Finding.{knowledge};
-ghost use Rattle.reading.specs.Totals.{total};
+ghost use Rattle.records.specs.Totals.{total};
 ghost use Rattle.storeys.specs.Storey.{publishedRules, wallShear, memberIn, memberRowsFault, storeyFinding, storeyAnswer};
 ghost use Rattle.storeys.specs.Tally.{tallyOf, Rows};
 use crate::StoreyFinding;
@@ -23,8 +23,8 @@ use crate::row::no_tally;
 use crate::row::number_of;
 use crate::row::refused_storey;
 use crate::row::row_fault;
-use reading::records::Member;
-use reading::records::Storey;
+use records::Member;
+use records::Storey;
 
 // 5 where one of the first n members has the number v.
 fn repeat_fault(rows: &[Member], n: usize, v: u64) -> u64

@@ -2,7 +2,7 @@
 ghost use mathlib.Core.Path.{_≡_};
 ghost use mathlib.Core.Bool.{_||_};
 ghost use lib.Dec.{ltb};
-ghost use Rattle.reading.specs.First.{pick};
+ghost use Rattle.records.specs.First.{pick};
 ghost use Rattle.storeys.specs.Storey.{shearFault};
 ghost use Rattle.storeys.specs.Building.{tilted};
 ghost use Rattle.storeys.specs.Verdict.{noVerdict, notedBy, headerCallFault, verdictAnswer};
@@ -11,9 +11,9 @@ use crate::BuildingFinding;
 use crate::BuildingJudgment;
 use crate::StoreyFinding;
 use crate::row::OVER_SHEAR_MOST;
-use reading::lines::earlier;
-use reading::ranges::header_fault;
-use reading::records::Header;
+use records::Header;
+use records::first::earlier;
+use records::ranges::header_fault;
 
 // What is found of some storeys, from the first on.
 pub(crate) struct Verdict {

@@ -1,7 +1,7 @@
 use Prim.Native.Nat.{ℕ}
 use mathlib.Core.List.{List}
 use mathlib.Core.Path.{ap, _∙_}
-use Rattle.report.specs.Line.{atFront, putLength}
+use Rattle.columns.specs.Line.{atFront, putLength}
 use lib.ListN.{length}
 use Rattle.determination.proofs.Outcomes.{too-long, not-too-long}
 use borrow.Author.Needs.{needs}

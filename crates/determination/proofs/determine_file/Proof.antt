@@ -18,7 +18,8 @@ use Rattle.walk.proofs.Walk.{told, S, _⨾_, _▸_, at, slot, from, lit, cp, sc
 use Rattle.walk.proofs.Slice.{R, kept, full, here, val-at, sh-at, sh-spares, sh-reads, sh-room, mut-at, mut-is, mut-reads, slice, lend-on, back-on, owed-len}
 use Rattle.walk.proofs.Array.{held, full-array, fill-array, as-array, begin, end, over, lend-mut, back-mut, lend-part, back-part}
 use Rattle.walk.proofs.Fn.{Callee, Knows, Body, Answers, entry, callee, knows, call, meets}
-use Rattle.reading.proofs.Structs.{header, member, storey, reading}
+use Rattle.records.proofs.Structs.{header, member, storey}
+use Rattle.reading.proofs.Structs.{reading}
 use Rattle.report.proofs.Structs.{reportjudgment}
 use Rattle.reading.specs.Survey.{survey}
 use Rattle.reading.specs.Answer.{tells}

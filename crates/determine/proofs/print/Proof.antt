@@ -2,7 +2,7 @@ use lib.ListN.{replicate}
 use Rattle.determination.specs.Determination.{printed}
 use mathlib.Core.Path.{sym}
 use lib.Seq.{length-take-le}
-use Rattle.report.proofs.Stamps.{put-within}
+use Rattle.columns.proofs.Stamps.{put-within}
 use borrow.Author.Needs.{needs}
 use Rattle.determine.proofs.print.Statement.{statement}
 use Rattle.determine.proofs.print.Tie as tie

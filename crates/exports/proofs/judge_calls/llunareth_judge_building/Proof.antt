@@ -15,10 +15,10 @@ use Rattle.walk.proofs.Slice.{R, kept, full, here, val-at, sh-at, sh-spares, sh
 use Rattle.walk.proofs.Array.{begin, end, over}
 use Rattle.walk.proofs.Fn.{Callee, Knows, Body, Answers, entry, callee, knows, call, meets}
 use Rattle.storeys.proofs.Structs.{buildingjudgment}
-use Rattle.reading.specs.declared.records.Header.{Header}
+use Rattle.records.specs.declared.Header.{Header}
 use Rattle.storeys.specs.Storey.{publishedRules}
 use Rattle.storeys.specs.Building.{Answers as Answered}
-use Rattle.reading.proofs.Structs.{header, member, storey}
+use Rattle.records.proofs.Structs.{header, member, storey}
 use Rattle.exports.proofs.Says as Says
 use Rattle.exports.proofs.Says.{words}
 use Rattle.exports.proofs.judge_calls.header_given.Met as header-given-met

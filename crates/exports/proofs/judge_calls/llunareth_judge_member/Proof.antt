@@ -3,10 +3,10 @@ use mathlib.Core.Path.{ap, _∙_}
 use mathlib.Core.List.{List}
 use Prim.Native.Nat.{ℕ}
 use Rattle.exports.specs.Words.{handed, ten}
-use Rattle.report.specs.Line.{atFront}
+use Rattle.columns.specs.Line.{atFront}
 use lib.ListN.{getD}
 use Rattle.members.specs.Finding.{Returned, returned, memberReturned}
-use Rattle.reading.proofs.Held.{member-same}
+use Rattle.format.proofs.Held.{member-same}
 use Rattle.exports.proofs.judge_calls.llunareth_judge_member.Statement.{statement}
 use Rattle.exports.proofs.judge_calls.llunareth_judge_member.Tie as tie
 

@@ -15,13 +15,13 @@ use Rattle.walk.proofs.Walk.{told, S, _⨾_, _▸_, at, slot, from, fld, sc, go
 use Rattle.walk.proofs.Slice.{R, kept, full, here, val-at, sh-at, sh-spares, sh-reads, mut-at, mut-is, mut-reads, slice, lend-on, back-on, owed-len}
 use Rattle.walk.proofs.Array.{begin, end, over}
 use Rattle.walk.proofs.Fn.{Callee, Knows, Body, Answers, entry, callee, knows, call, meets}
-use Rattle.reading.proofs.Structs.{member, storey}
+use Rattle.records.proofs.Structs.{member, storey}
 use Rattle.storeys.proofs.Structs.{storeyjudgment}
-use Rattle.reading.specs.declared.records.Storey.{Storey}
+use Rattle.records.specs.declared.Storey.{Storey}
 use Rattle.storeys.specs.Storey.{returnedStorey, storeyReturned}
 use Rattle.members.specs.Finding.{Returned}
 use Rattle.exports.specs.Words.{ten}
-use Rattle.report.specs.Line.{atFront}
+use Rattle.columns.specs.Line.{atFront}
 use Rattle.exports.proofs.Says as Says
 use Rattle.exports.proofs.Says.{words}
 use Rattle.exports.proofs.judge_calls.storey_given.Met as storey-given-met

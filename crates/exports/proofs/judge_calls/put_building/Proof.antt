@@ -2,7 +2,7 @@ use mathlib.Core.Path.{ap, _∙_}
 use mathlib.Core.List.{List}
 use Prim.Native.Nat.{ℕ}
 use lib.ListN.{getD}
-use Rattle.report.specs.Line.{atFront}
+use Rattle.columns.specs.Line.{atFront}
 use borrow.Author.Needs.{needs}
 use Rattle.exports.proofs.judge_calls.put_building.Statement.{statement}
 use Rattle.exports.proofs.judge_calls.put_building.Tie as tie

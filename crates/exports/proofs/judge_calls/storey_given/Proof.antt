@@ -2,7 +2,7 @@ use mathlib.Core.Path.{_∙_}
 use Prim.Native.Nat.{ℕ}
 use lib.ListN.{getD}
 use native.Mathlib.Omega.{arith}
-use Rattle.reading.proofs.Held.{storey-same}
+use Rattle.format.proofs.Held.{storey-same}
 use Rattle.exports.specs.Words.{handed}
 use borrow.Author.Needs.{needs}
 use Rattle.exports.proofs.judge_calls.storey_given.Statement.{statement}

@@ -14,10 +14,11 @@ use Rattle.walk.proofs.Walk.{S, _⨾_, _▸_, at, slot, from, fld, gone, forget
 use Rattle.walk.proofs.Slice.{R, kept, full, here, val-at, sh-at, sh-spares, sh-reads, mut-at, mut-is, mut-reads, slice, lend-on, back-on, owed-len}
 use Rattle.walk.proofs.Array.{begin, end, over}
 use Rattle.walk.proofs.Fn.{Callee, Knows, Body, Answers, entry, callee, knows, call, meets}
-use Rattle.reading.proofs.Structs.{member, reading, storey}
+use Rattle.records.proofs.Structs.{member, storey}
+use Rattle.reading.proofs.Structs.{reading}
 use Rattle.reading.specs.Answer.{Told}
 use Rattle.exports.specs.Words.{words as wordsOf, refusalTold}
-use Rattle.report.specs.Line.{atFront}
+use Rattle.columns.specs.Line.{atFront}
 use Rattle.exports.proofs.Says as Says
 use Rattle.exports.proofs.Says.{bytes, words}
 use Rattle.reading.proofs.rows.read.Met as read-met

@@ -4,7 +4,7 @@ use mathlib.Core.List.{List}
 use Prim.Native.Nat.{ℕ}
 use lib.ListN.{getD}
 use Rattle.reading.specs.Answer.{tells}
-use Rattle.report.specs.Line.{atFront}
+use Rattle.columns.specs.Line.{atFront}
 use Rattle.exports.proofs.Front.{first-word}
 use Rattle.exports.proofs.reading_call.put_words.Statement.{statement}
 use Rattle.exports.proofs.reading_call.put_words.Tie as tie

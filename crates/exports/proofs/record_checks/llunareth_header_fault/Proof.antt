@@ -2,8 +2,8 @@ use Prim.Native.Nat.{ℕ}
 use native.Mathlib.Omega.{arith}
 use mathlib.Core.Path.{ap, _∙_}
 use lib.ListN.{getD}
-use Rattle.reading.specs.Records.{headerFault}
-use Rattle.reading.proofs.Held.{header-same}
+use Rattle.records.specs.Records.{headerFault}
+use Rattle.format.proofs.Held.{header-same}
 use Rattle.exports.specs.Words.{handed}
 use borrow.Author.Needs.{needs}
 use Rattle.exports.proofs.record_checks.llunareth_header_fault.Statement.{statement}

@@ -2,8 +2,8 @@ use Prim.Native.Nat.{ℕ}
 use native.Mathlib.Omega.{arith}
 use mathlib.Core.Path.{ap, _∙_}
 use lib.ListN.{getD}
-use Rattle.reading.specs.Records.{memberFault}
-use Rattle.reading.proofs.Held.{member-same}
+use Rattle.records.specs.Records.{memberFault}
+use Rattle.format.proofs.Held.{member-same}
 use Rattle.exports.specs.Words.{handed}
 use borrow.Author.Needs.{needs}
 use Rattle.exports.proofs.record_checks.llunareth_member_fault.Statement.{statement}

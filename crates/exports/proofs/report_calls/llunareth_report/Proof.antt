@@ -16,12 +16,12 @@ use Rattle.walk.proofs.Slice.{R, kept, full, here, val-at, sh-at, sh-spares, sh
 use Rattle.walk.proofs.Array.{begin, end, over}
 use Rattle.walk.proofs.Fn.{Callee, Knows, Body, Answers, entry, callee, knows, call, meets}
 use Rattle.report.proofs.Structs.{reportjudgment}
-use Rattle.reading.specs.declared.records.Header.{Header}
-use Rattle.reading.proofs.Structs.{header, member, storey}
+use Rattle.records.specs.declared.Header.{Header}
+use Rattle.records.proofs.Structs.{header, member, storey}
 use Rattle.members.specs.Finding.{Returned}
 use Rattle.report.specs.Sheet.{returnedReport, reportReturned, bufferAfter}
 use Rattle.exports.specs.Words.{ten}
-use Rattle.report.specs.Line.{atFront}
+use Rattle.columns.specs.Line.{atFront}
 use Rattle.exports.proofs.Says as Says
 use Rattle.exports.proofs.Says.{bytes, words}
 use Rattle.exports.proofs.judge_calls.header_given.Met as header-given-met

@@ -2,8 +2,8 @@ use mathlib.Core.Path.{_≡_, sym, ap, _∙_}
 use mathlib.Core.Bool.{true, false}
 use lib.Dec.{eqb}
 use borrow.Author.Tests.{not-true, not-false, eq-eqb, ne-eqb}
-use Rattle.reading.specs.Records.{memberFault}
-use Rattle.reading.proofs.Validity.{valid}
+use Rattle.records.specs.Records.{memberFault}
+use Rattle.records.proofs.Validity.{valid}
 use Rattle.members.specs.declared.finding.MemberAnswer.the-variants.{Judged, Refused}
 use Rattle.members.specs.Finding.{finding, knowledge, answerBy}
 use Rattle.members.proofs.Assembly.{level-sized, published-sized}

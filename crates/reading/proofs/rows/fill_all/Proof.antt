@@ -20,16 +20,16 @@ use Rattle.walk.proofs.Walk.{S, fld, _⨾_, _▸_, _◂_, told, _then_, at, slo
 use Rattle.walk.proofs.Slice.{R, full, here, val-at, sh-at, sh-spares, sh-reads, mut-at, mut-is, mut-reads, slice, lend-on, back-on, owed-len}
 use Rattle.walk.proofs.Array.{begin, end, over}
 use Rattle.walk.proofs.Fn.{Callee, Knows, Body, Answers, entry, callee, knows, call, meets}
-use Rattle.reading.proofs.Structs.{member, storey}
-use Rattle.reading.specs.declared.records.Member.{Member}
+use Rattle.records.proofs.Structs.{member, storey}
+use Rattle.records.specs.declared.Member.{Member}
 use Rattle.reading.proofs.survey.storey_at.Met as storey-at-met
 use Rattle.reading.proofs.survey.storey_at.Symbol as storey-at-symbol
 use Rattle.reading.proofs.survey.storey_at.Kinds as storey-at-kinds
 use Rattle.reading.proofs.survey.storey_at.Reads as storey-at-reads
-use Rattle.reading.proofs.survey.count_of.Met as count-of-met
-use Rattle.reading.proofs.survey.count_of.Symbol as count-of-symbol
-use Rattle.reading.proofs.survey.count_of.Kinds as count-of-kinds
-use Rattle.reading.proofs.survey.count_of.Reads as count-of-reads
+use Rattle.records.proofs.numbers.count_of.Met as count-of-met
+use Rattle.records.proofs.numbers.count_of.Symbol as count-of-symbol
+use Rattle.records.proofs.numbers.count_of.Kinds as count-of-kinds
+use Rattle.records.proofs.numbers.count_of.Reads as count-of-reads
 use Rattle.reading.proofs.rows.fill_members.Met as fill-members-met
 use Rattle.reading.proofs.rows.fill_members.Symbol as fill-members-symbol
 use Rattle.reading.specs.Survey.{membersBefore, filledMembers}
@@ -147,6 +147,6 @@ unfolding Code.routine tablesOf
 fill-all-spec {M} 𝓤 H 𝓜 𝓖 𝓡 = let w : World = record { M = M; 𝓤 = 𝓤; H = H; 𝓜 = 𝓜; 𝓖 = 𝓖; 𝓡 = 𝓡 } in
     meets Says.fill-all K 1 Code.function body answers w Code.env Key.name (Code.unfolded 𝓤 H 𝓜 𝓡) (
       storey-at-reads.known w Code.env storey-at-symbol.name storey-at-symbol.routine Code.calls-reading·survey·storey-at (storey-at-met.met 𝓤 H 𝓜 𝓖 𝓡),
-      count-of-reads.known w Code.env count-of-symbol.name count-of-symbol.routine Code.calls-reading·survey·count-of (count-of-met.met 𝓤 H 𝓜 𝓖 𝓡),
+      count-of-reads.known w Code.env count-of-symbol.name count-of-symbol.routine Code.calls-records·numbers·count-of (count-of-met.met 𝓤 H 𝓜 𝓖 𝓡),
       knows Says.fill-members w Code.env fill-members-symbol.name fill-members-symbol.routine Code.calls-reading·rows·fill-members (fill-members-met.met 𝓤 H 𝓜 𝓖 𝓡),
     )

@@ -17,9 +17,9 @@ use borrow.Table.Rows.{sc-here}
 use Rattle.walk.proofs.Walk.{S, _⨾_, _▸_, _◂_, told, _then_, at, from, set, op2, lit, unit, cp, fld, sc, gone, old, forget, falls, test, while, exits, ret, same, u64}
 use Rattle.walk.proofs.Slice.{R, kept, full, here, mut-ptr, sh-at, sh-spares, sh-reads, elem-in}
 use Rattle.walk.proofs.Fn.{Callee, Knows, Body, Answers, entry, call, meets}
-use Rattle.reading.proofs.Structs.{member}
-use Rattle.reading.specs.declared.records.Member.{Member}
-use Rattle.reading.specs.Lines.{memberAt}
+use Rattle.records.proofs.Structs.{member}
+use Rattle.records.specs.declared.Member.{Member}
+use Rattle.format.specs.Lines.{memberAt}
 use Rattle.reading.specs.Survey.{lineStart, placed}
 use Rattle.reading.proofs.Placed.{placed-none, placed-step, placed-all}
 use Rattle.reading.proofs.Says as Says

@@ -17,8 +17,8 @@ use borrow.Table.Rows.{sc-here}
 use Rattle.walk.proofs.Walk.{S, _⨾_, _▸_, _◂_, told, at, from, set, op2, lit, unit, cp, fld, sc, gone, old, forget, falls, test, while, exits, ret, same, u64}
 use Rattle.walk.proofs.Slice.{R, kept, full, here, mut-ptr, val-at, sh-at, sh-spares, sh-reads, elem-in}
 use Rattle.walk.proofs.Fn.{Callee, Knows, Body, Answers, entry, call, meets}
-use Rattle.reading.proofs.Structs.{storey}
-use Rattle.reading.specs.declared.records.Storey.{Storey}
+use Rattle.records.proofs.Structs.{storey}
+use Rattle.records.specs.declared.Storey.{Storey}
 use Rattle.reading.specs.Survey.{membersBefore, storey as storeyOf, placed}
 use Rattle.reading.proofs.Placed.{placed-none, placed-step, placed-all}
 use Rattle.reading.proofs.Filling.{before-none, storey-lies, storey-is, next-small, before-next}
@@ -28,10 +28,10 @@ use Rattle.reading.proofs.survey.storey_at.Met as storey-at-met
 use Rattle.reading.proofs.survey.storey_at.Symbol as storey-at-symbol
 use Rattle.reading.proofs.survey.storey_at.Kinds as storey-at-kinds
 use Rattle.reading.proofs.survey.storey_at.Reads as storey-at-reads
-use Rattle.reading.proofs.survey.count_of.Met as count-of-met
-use Rattle.reading.proofs.survey.count_of.Symbol as count-of-symbol
-use Rattle.reading.proofs.survey.count_of.Kinds as count-of-kinds
-use Rattle.reading.proofs.survey.count_of.Reads as count-of-reads
+use Rattle.records.proofs.numbers.count_of.Met as count-of-met
+use Rattle.records.proofs.numbers.count_of.Symbol as count-of-symbol
+use Rattle.records.proofs.numbers.count_of.Kinds as count-of-kinds
+use Rattle.records.proofs.numbers.count_of.Reads as count-of-reads
 use Rattle.reading.proofs.rows.fill_storeys.Code
 use Rattle.reading.proofs.rows.fill_storeys.Key
 use Rattle.reading.proofs.rows.fill_storeys.Statement.{statement}
@@ -134,5 +134,5 @@ unfolding Code.routine tablesOf
 fill-storeys-spec {M} 𝓤 H 𝓜 𝓖 𝓡 = let w : World = record { M = M; 𝓤 = 𝓤; H = H; 𝓜 = 𝓜; 𝓖 = 𝓖; 𝓡 = 𝓡 } in
     meets Says.fill-storeys K 0 Code.function body answers w Code.env Key.name (Code.unfolded 𝓤 H 𝓜 𝓡) (
       storey-at-reads.known w Code.env storey-at-symbol.name storey-at-symbol.routine Code.calls-reading·survey·storey-at (storey-at-met.met 𝓤 H 𝓜 𝓖 𝓡),
-      count-of-reads.known w Code.env count-of-symbol.name count-of-symbol.routine Code.calls-reading·survey·count-of (count-of-met.met 𝓤 H 𝓜 𝓖 𝓡),
+      count-of-reads.known w Code.env count-of-symbol.name count-of-symbol.routine Code.calls-records·numbers·count-of (count-of-met.met 𝓤 H 𝓜 𝓖 𝓡),
     )

@@ -17,7 +17,8 @@ use Rattle.walk.proofs.Walk.{told, S, _⨾_, _▸_, at, slot, from, set, fld, s
 use Rattle.walk.proofs.Slice.{R, kept, full, here, mut-len, val-at, sh-at, sh-spares, sh-reads, mut-at, mut-is, mut-reads, copy-val, slice, lend-on, back-on, owed-len}
 use Rattle.walk.proofs.Array.{begin, end, over}
 use Rattle.walk.proofs.Fn.{Callee, Knows, Body, Answers, entry, callee, knows, call, meets}
-use Rattle.reading.proofs.Structs.{member, reading, storey}
+use Rattle.records.proofs.Structs.{member, storey}
+use Rattle.reading.proofs.Structs.{reading}
 use Rattle.reading.proofs.survey.check.Met as check-met
 use Rattle.reading.proofs.survey.check.Symbol as check-symbol
 use Rattle.reading.proofs.survey.check.Kinds as check-kinds
@@ -28,7 +29,7 @@ use Rattle.reading.proofs.survey.storeys_read.Kinds as storeys-read-kin
 use Rattle.reading.proofs.survey.storeys_read.Reads as storeys-read-reads
 use Rattle.reading.proofs.rows.fill_storeys.Met as fill-storeys-met
 use Rattle.reading.proofs.rows.fill_storeys.Symbol as fill-storeys-symbol
-use Rattle.reading.specs.Lines.{storeyBy, memberBy}
+use Rattle.records.specs.Records.{storeyBy, memberBy}
 use Rattle.reading.specs.Survey.{survey}
 use Rattle.reading.specs.Answer.{Told, tells, told as toldOf, storeysTold}
 use Rattle.reading.proofs.Accepted.{lies, storeys-are, members-are}

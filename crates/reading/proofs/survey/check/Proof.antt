@@ -1,6 +1,6 @@
 use mathlib.Core.Path.{sym, ap, _∙_}
 use native.Mathlib.Omega.{arith}
-use Rattle.reading.specs.declared.records.Header.{Header}
+use Rattle.records.specs.declared.Header.{Header}
 use Rattle.reading.proofs.Numbers.{header-number, checked-number, ten-storeys, told-header, told-later, told-accepted}
 use borrow.Author.Needs.{needs}
 use Rattle.reading.proofs.survey.check.Statement.{statement}

@@ -1,8 +1,6 @@
-use Rattle.reading.proofs.Held.{shaped-fits, header-unshaped, header-shaped}
+use Rattle.reading.proofs.LineChecks.{header-unshaped, header-shaped}
 use borrow.Author.Tests.{not-true, not-false}
 use mathlib.Core.Path.{sym, _∙_}
-use native.Mathlib.Omega.{arith}
-use Rattle.reading.specs.declared.records.Tag.the-variants.{B}
 use borrow.Author.Needs.{needs}
 use Rattle.reading.proofs.survey.header_line.Statement.{statement}
 use Rattle.reading.proofs.survey.header_line.Tie as tie
@@ -14,18 +12,13 @@ returns : tie.Need-returns
 returns c = header-unshaped _ _ (sym (c .before .is-shaped .ensures) ∙ not-true _ (c .if1 .taken))
 
 read-fields-requires : tie.Need-read-fields-requires
-read-fields-requires c κs = omega (arith, shaped-fits B (c .before .before .before .args .s .now) 0 (sym (c .before .is-shaped .ensures) ∙ not-false _ (c .if1 .left)))
+read-fields-requires c κs = search needs
 
 header-of-requires : tie.Need-header-of-requires
 header-of-requires c κs = search needs
 
-array-read-fields-fault : tie.Need-array-read-fields-fault
-array-read-fields-fault c = search needs
-
 fields-fault-requires : tie.Need-fields-fault-requires
-fields-fault-requires c κs =
-    let a = c .before .before .before .before .before .before .args in
-    (omega (arith, shaped-fits B (a .s .now) 0 (sym (c .before .before .before .before .is-shaped .ensures) ∙ not-false _ (c .before .before .before .if1 .left))), c .before .before .read-fields .ensures .values 2 (omega arith))
+fields-fault-requires c κs = search needs
 
 header-fault-requires : tie.Need-header-fault-requires
 header-fault-requires c κs = search needs
@@ -34,7 +27,7 @@ earlier-requires : tie.Need-earlier-requires
 earlier-requires c κs = search needs
 
 returns-2 : tie.Need-returns-2
-returns-2 c = header-shaped _ (c .before .before .before .before .before .read-fields .result) (c .before .before .before .header-of .result) _ _ (sym (c .before .before .before .before .before .before .before .is-shaped .ensures) ∙ not-false _ (c .before .before .before .before .before .before .if1 .left)) (c .before .before .before .before .before .read-fields .ensures) (c .before .before .before .header-of .ensures) (c .before .header-fault .ensures) (c .earlier .ensures ∙ rw (c .before .before .fields-fault .ensures))
+returns-2 c = header-shaped _ (c .before .before .before .before .before .read-fields .result) (c .before .before .before .header-of .result) _ _ _ (sym (c .before .before .before .before .before .before .before .is-shaped .ensures) ∙ not-false _ (c .before .before .before .before .before .before .if1 .left)) (c .before .before .before .before .before .read-fields .ensures) (c .before .before .before .header-of .ensures) (c .before .header-fault .ensures) (c .before .before .fields-fault .ensures) (c .earlier .ensures)
 
 pub header-line-spec : {M : Type 1} → statement M
 header-line-spec =
@@ -44,7 +37,6 @@ header-line-spec =
     returns
     read-fields-requires
     header-of-requires
-    array-read-fields-fault
     fields-fault-requires
     header-fault-requires
     earlier-requires

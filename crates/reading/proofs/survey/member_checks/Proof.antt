@@ -1,8 +1,6 @@
-use Rattle.reading.proofs.Held.{shaped-fits, member-unshaped, member-unheld, member-shaped}
+use Rattle.reading.proofs.LineChecks.{member-unshaped, member-unheld, member-shaped}
 use borrow.Author.Tests.{not-true, not-false}
 use mathlib.Core.Path.{sym, _∙_}
-use native.Mathlib.Omega.{arith}
-use Rattle.reading.specs.declared.records.Tag.the-variants.{M}
 use borrow.Author.Needs.{needs}
 use Rattle.reading.proofs.survey.member_checks.Statement.{statement}
 use Rattle.reading.proofs.survey.member_checks.Tie as tie
@@ -17,18 +15,13 @@ returns-2 : tie.Need-returns-2
 returns-2 c = member-unheld _ _ _ (sym (c .before .before .is-shaped .ensures) ∙ not-false _ (c .before .if1 .left)) (not-true _ (c .if2 .taken))
 
 read-fields-requires : tie.Need-read-fields-requires
-read-fields-requires c κs = omega (arith, shaped-fits M (c .before .before .before .before .args .s .now) (c .before .before .before .before .args .at) (sym (c .before .before .is-shaped .ensures) ∙ not-false _ (c .before .if1 .left)))
+read-fields-requires c κs = search needs
 
 member-of-requires : tie.Need-member-of-requires
 member-of-requires c κs = search needs
 
-array-read-fields-fault : tie.Need-array-read-fields-fault
-array-read-fields-fault c = search needs
-
 fields-fault-requires : tie.Need-fields-fault-requires
-fields-fault-requires c κs =
-    let a = c .before .before .before .before .before .before .before .args in
-    (omega (arith, shaped-fits M (a .s .now) (a .at) (sym (c .before .before .before .before .before .is-shaped .ensures) ∙ not-false _ (c .before .before .before .before .if1 .left))), c .before .before .read-fields .ensures .values 2 (omega arith))
+fields-fault-requires c κs = search needs
 
 member-fault-requires : tie.Need-member-fault-requires
 member-fault-requires c κs = search needs
@@ -37,7 +30,7 @@ earlier-requires : tie.Need-earlier-requires
 earlier-requires c κs = search needs
 
 returns-3 : tie.Need-returns-3
-returns-3 c = member-shaped _ _ _ (c .before .before .before .before .before .read-fields .result) (c .before .before .before .member-of .result) _ _ (sym (c .before .before .before .before .before .before .before .before .is-shaped .ensures) ∙ not-false _ (c .before .before .before .before .before .before .before .if1 .left)) (not-false _ (c .before .before .before .before .before .before .if2 .left)) (c .before .before .before .before .before .read-fields .ensures) (c .before .before .before .member-of .ensures) (c .before .member-fault .ensures) (c .earlier .ensures ∙ rw (c .before .before .fields-fault .ensures))
+returns-3 c = member-shaped _ _ _ (c .before .before .before .before .before .read-fields .result) (c .before .before .before .member-of .result) _ _ _ (sym (c .before .before .before .before .before .before .before .before .is-shaped .ensures) ∙ not-false _ (c .before .before .before .before .before .before .before .if1 .left)) (not-false _ (c .before .before .before .before .before .before .if2 .left)) (c .before .before .before .before .before .read-fields .ensures) (c .before .before .before .member-of .ensures) (c .before .member-fault .ensures) (c .before .before .fields-fault .ensures) (c .earlier .ensures)
 
 pub member-checks-spec : {M : Type 1} → statement M
 member-checks-spec =
@@ -48,7 +41,6 @@ member-checks-spec =
     returns-2
     read-fields-requires
     member-of-requires
-    array-read-fields-fault
     fields-fault-requires
     member-fault-requires
     earlier-requires

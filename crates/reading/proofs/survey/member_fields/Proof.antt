@@ -1,6 +1,6 @@
 use mathlib.Core.Path.{refl}
 use borrow.Author.Tests.{not-false}
-use Rattle.reading.proofs.Held.{member-unwritten, member-good}
+use Rattle.reading.proofs.LineChecks.{member-unwritten, member-good}
 use borrow.Author.Needs.{needs}
 use Rattle.reading.proofs.survey.member_fields.Statement.{statement}
 use Rattle.reading.proofs.survey.member_fields.Tie as tie

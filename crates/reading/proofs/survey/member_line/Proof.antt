@@ -1,7 +1,8 @@
 use mathlib.Core.Path.{sym, _∙_}
 use native.Mathlib.Omega.{arith}
-use Rattle.reading.specs.declared.records.Tag.the-variants.{M}
-use Rattle.reading.proofs.Framed.{framed-fits, member-whole}
+use Rattle.records.specs.declared.Tag.the-variants.{M}
+use Rattle.format.proofs.Framed.{framed-fits}
+use Rattle.reading.proofs.LineChecks.{member-whole}
 use borrow.Author.Needs.{needs}
 use Rattle.reading.proofs.survey.member_line.Statement.{statement}
 use Rattle.reading.proofs.survey.member_line.Tie as tie

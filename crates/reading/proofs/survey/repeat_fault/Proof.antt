@@ -6,8 +6,8 @@ use borrow.Author.Needs.{needs}
 use lib.ListN.{getD}
 use lib.Dec.{eqb}
 use borrow.Author.Tests.{eq-eqb, ne-eqb}
-use Rattle.reading.specs.First.{any}
-use Rattle.reading.proofs.Below.{any-none, any-more, any-holds}
+use Rattle.records.specs.First.{any}
+use Rattle.records.proofs.Below.{any-none, any-more, any-holds}
 use Rattle.reading.proofs.survey.repeat_fault.Statement.{statement}
 use Rattle.reading.proofs.survey.repeat_fault.Tie as tie
 

@@ -1,6 +1,5 @@
-use mathlib.Core.Path.{ap, _∙_}
-use Rattle.report.specs.Line.{stamped}
-use Rattle.report.proofs.Printing.{building-line-is, no-line}
+use mathlib.Core.Path.{refl}
+use Rattle.report.proofs.Printing.{line-put, building-line-is, no-line}
 use borrow.Author.Needs.{needs}
 use Rattle.report.proofs.printed.put_building.Statement.{statement}
 use Rattle.report.proofs.printed.put_building.Tie as tie
@@ -33,8 +32,9 @@ returns : tie.Need-returns
 returns c =
     let a = c .before .before .before .before .before .before .before .before .before .before .before .before .args in
     let g = c .before .before .before .before .before .before .before .before .before .answer .given in
-    c .before .before .put-line .ensures .1
-    ∙ ap (stamped (a .out .now) (a .at)) (building-line-is (c .before .before .before .before .before .before .before .flag .result) (c .before .before .before .before .before .before .flag2 .result) (a .r .answer) (g .0 .0) (g .1) (c .before .before .before .before .before .before .before .flag .ensures) (c .before .before .before .before .before .before .flag2 .ensures))
+    let l = c .before .before .put-line in
+    line-put _ _ _ (a .out .now) _ (a .at) _ 26 (building-line-is (c .before .before .before .before .before .before .before .flag .result) (c .before .before .before .before .before .before .flag2 .result) (a .r .answer) (g .0 .0) (g .1) (c .before .before .before .before .before .before .before .flag .ensures) (c .before .before .before .before .before .before .flag2 .ensures))
+    refl (c .before .before .before .before .before .before .before .before .before .before .before .before .pre) (l .ensures .0) (l .ensures .1) .1
 
 returns-2 : tie.Need-returns-2
 returns-2 c = let a = c .before .before .before .args in no-line (a .out .now) (a .at) (a .r .answer) _ (c .enum-told .given .1)

@@ -1,7 +1,5 @@
-use native.Mathlib.Omega.{arith}
-use mathlib.Core.Path.{ap, _∙_}
-use Rattle.report.specs.Line.{stamped}
-use Rattle.report.proofs.Printing.{storey-line-is}
+use mathlib.Core.Path.{refl}
+use Rattle.report.proofs.Printing.{line-put, storey-line-is}
 use borrow.Author.Needs.{needs}
 use Rattle.report.proofs.printed.put_storey.Statement.{statement}
 use Rattle.report.proofs.printed.put_storey.Tie as tie
@@ -24,10 +22,9 @@ same-length c = search needs
 returns : tie.Need-returns
 returns c =
     let a = c .before .before .before .before .before .before .before .before .args in
-    let l = c .before .before .put-line in (
-      omega (arith, l .ensures .0),
-      l .ensures .1 ∙ ap (stamped (a .out .now) (a .at)) (storey-line-is (a .s .number) (c .before .before .before .before .before .before .flag .result) (a .f) (c .before .before .before .before .before .before .flag .ensures)),
-    )
+    let l = c .before .before .put-line in
+    line-put _ _ _ (a .out .now) _ (a .at) _ 74 (storey-line-is (a .s .number) (c .before .before .before .before .before .before .flag .result) (a .f) (c .before .before .before .before .before .before .flag .ensures))
+    refl (c .before .before .before .before .before .before .before .before .pre) (l .ensures .0) (l .ensures .1)
 
 pub put-storey-spec : {M : Type 1} → statement M
 put-storey-spec =

@@ -4,7 +4,7 @@ use lib.ListN.{length, drop}
 use borrow.Author.Tests.{ltb-true, ltb-false}
 use borrow.Kind.Bool.{bAt}
 use Rattle.storeys.specs.Storey.{noMember}
-use Rattle.report.specs.Line.{stamped}
+use Rattle.columns.specs.Line.{stamped}
 use Rattle.report.specs.Sheet.{memberLines}
 use Rattle.report.proofs.Rows.{member-good, members-next, members-end}
 use mathlib.Core.List.{List, [], _∷_}
@@ -24,7 +24,7 @@ use Rattle.walk.proofs.Walk.{S, _⨾_, _▸_, _◂_, told, at, slot, from, set,
 use Rattle.walk.proofs.Slice.{R, kept, full, here, sh-ptr, sh-len, val-at, mut-at, mut-is, mut-reads, elem-out, slice, lend-on, back-on, owed-len}
 use Rattle.walk.proofs.Array.{begin, end, over}
 use Rattle.walk.proofs.Fn.{Callee, Knows, Body, Answers, entry, call, meets}
-use Rattle.reading.proofs.Structs.{member}
+use Rattle.records.proofs.Structs.{member}
 use Rattle.report.proofs.Says as Says
 use Rattle.report.proofs.Says.{bytes}
 use Rattle.report.proofs.printed.put_member.Met as put-member-met

@@ -18,7 +18,7 @@ use Rattle.walk.proofs.Walk.{S, _⨾_, _▸_, at, slot, from, fld, sc, gone, ol
 use Rattle.walk.proofs.Slice.{ty, R, kept, full, here, val-at, sh-at, sh-spares, sh-reads, mut-at, mut-is, mut-reads, slice, lend-on, back-on, owed-len}
 use Rattle.walk.proofs.Array.{begin, end, over}
 use Rattle.walk.proofs.Fn.{Callee, Knows, Body, Answers, entry, callee, knows, call, meets}
-use Rattle.reading.proofs.Structs.{member, storey}
+use Rattle.records.proofs.Structs.{member, storey}
 use Rattle.storeys.proofs.Structs.{storeyfinding, storeyjudgment}
 use Rattle.storeys.proofs.storey.judge_storey.Met as judge-storey-met
 use Rattle.storeys.proofs.storey.judge_storey.Symbol as judge-storey-symbol

@@ -3,7 +3,7 @@ use native.Mathlib.Omega.{arith}
 use lib.ListN.{length}
 use borrow.Author.Tests.{ltb-true, ltb-false}
 use Rattle.storeys.specs.Building.{noStorey, storeyIn, membersBefore}
-use Rattle.report.specs.Line.{stamped}
+use Rattle.columns.specs.Line.{stamped}
 use Rattle.report.specs.Sheet.{storeyLines, storeysLines}
 use Rattle.report.proofs.Survey.{members-most, part-clear, part-size, part-ends, all-printed, storeys-next, storeys-end}
 use Rattle.storeys.proofs.BuildingRows.{none-before, next-before, part-is}
@@ -26,15 +26,15 @@ use Rattle.walk.proofs.Walk.{S, _⨾_, _▸_, _◂_, told, _then_, at, slot, fr
 use Rattle.walk.proofs.Slice.{ty, sh-at, R, kept, full, here, sh-ptr, sh-len, val-at, sh-spares, sh-reads, sh-room, mut-at, mut-is, mut-reads, copy-val, elem-out, part, slice, lend-on, back-on, owed-len}
 use Rattle.walk.proofs.Array.{begin, end, over}
 use Rattle.walk.proofs.Fn.{Callee, Knows, Body, Answers, entry, callee, knows, call, meets}
-use Rattle.reading.proofs.Structs.{header, member, storey}
+use Rattle.records.proofs.Structs.{header, member, storey}
 use Rattle.storeys.proofs.verdict.level_of.Met as level-of-met
 use Rattle.storeys.proofs.verdict.level_of.Symbol as level-of-symbol
 use Rattle.storeys.proofs.verdict.level_of.Kinds as level-of-kinds
 use Rattle.storeys.proofs.verdict.level_of.Reads as level-of-reads
-use Rattle.reading.proofs.survey.count_of.Met as count-of-met
-use Rattle.reading.proofs.survey.count_of.Symbol as count-of-symbol
-use Rattle.reading.proofs.survey.count_of.Kinds as count-of-kinds
-use Rattle.reading.proofs.survey.count_of.Reads as count-of-reads
+use Rattle.records.proofs.numbers.count_of.Met as count-of-met
+use Rattle.records.proofs.numbers.count_of.Symbol as count-of-symbol
+use Rattle.records.proofs.numbers.count_of.Kinds as count-of-kinds
+use Rattle.records.proofs.numbers.count_of.Reads as count-of-reads
 use Rattle.report.proofs.sheet.put_storey_lines.Met as put-storey-lines-met
 use Rattle.report.proofs.sheet.put_storey_lines.Symbol as put-storey-lines-symbol
 use Rattle.report.proofs.Says as Says
@@ -214,6 +214,6 @@ unfolding Code.routine tablesOf
 put-storeys-spec {M} 𝓤 H 𝓜 𝓖 𝓡 = let w : World = record { M = M; 𝓤 = 𝓤; H = H; 𝓜 = 𝓜; 𝓖 = 𝓖; 𝓡 = 𝓡 } in
     meets Says.put-storeys K 1 Code.function body answers w Code.env Key.name (Code.unfolded 𝓤 H 𝓜 𝓡) (
       level-of-reads.known w Code.env level-of-symbol.name level-of-symbol.routine Code.calls-storeys·verdict·level-of (level-of-met.met 𝓤 H 𝓜 𝓖 𝓡),
-      count-of-reads.known w Code.env count-of-symbol.name count-of-symbol.routine Code.calls-reading·survey·count-of (count-of-met.met 𝓤 H 𝓜 𝓖 𝓡),
+      count-of-reads.known w Code.env count-of-symbol.name count-of-symbol.routine Code.calls-records·numbers·count-of (count-of-met.met 𝓤 H 𝓜 𝓖 𝓡),
       knows Says.put-storey-lines w Code.env put-storey-lines-symbol.name put-storey-lines-symbol.routine Code.calls-report·sheet·put-storey-lines (put-storey-lines-met.met 𝓤 H 𝓜 𝓖 𝓡),
     )

@@ -21,7 +21,7 @@ use Rattle.walk.proofs.Walk.{told, S, _⨾_, _▸_, at, slot, from, set, op2, l
 use Rattle.walk.proofs.Slice.{ty, R, kept, full, here, sh-len, mut-len, val-at, sh-at, sh-spares, sh-reads, mut-at, mut-is, mut-reads, slice, lend-on, back-on, owed-len}
 use Rattle.walk.proofs.Array.{begin, end, over}
 use Rattle.walk.proofs.Fn.{Callee, Knows, Body, Answers, entry, callee, knows, call, meets}
-use Rattle.reading.proofs.Structs.{header, member, storey}
+use Rattle.records.proofs.Structs.{header, member, storey}
 use Rattle.storeys.proofs.Structs.{buildingjudgment}
 use Rattle.storeys.proofs.Says as storeys-Says
 use Rattle.storeys.proofs.building.judge_building.Met as judge-building-met

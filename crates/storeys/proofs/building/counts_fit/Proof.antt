@@ -18,12 +18,12 @@ use borrow.Table.Rows.{sc-here}
 use Rattle.walk.proofs.Walk.{S, _⨾_, _▸_, _◂_, told, _then_, at, from, set, op2, lit, cp, fld, sc, gone, old, forget, falls, test, when, while, exits, ret, same, u64}
 use Rattle.walk.proofs.Slice.{R, kept, full, here, sh-ptr, sh-len, val-at, elem-out}
 use Rattle.walk.proofs.Fn.{Callee, Knows, Body, Answers, entry, call, meets}
-use Rattle.reading.proofs.Structs.{storey}
+use Rattle.records.proofs.Structs.{storey}
 use Rattle.storeys.proofs.Says as Says
-use Rattle.reading.proofs.survey.count_of.Met as count-of-met
-use Rattle.reading.proofs.survey.count_of.Symbol as count-of-symbol
-use Rattle.reading.proofs.survey.count_of.Kinds as count-of-kinds
-use Rattle.reading.proofs.survey.count_of.Reads as count-of-reads
+use Rattle.records.proofs.numbers.count_of.Met as count-of-met
+use Rattle.records.proofs.numbers.count_of.Symbol as count-of-symbol
+use Rattle.records.proofs.numbers.count_of.Kinds as count-of-kinds
+use Rattle.records.proofs.numbers.count_of.Reads as count-of-reads
 use Rattle.storeys.proofs.building.counts_fit.Code
 use Rattle.storeys.proofs.building.counts_fit.Key
 use Rattle.storeys.proofs.building.counts_fit.Statement.{statement}
@@ -116,4 +116,4 @@ answers κs qs a good pre bs =
 pub counts-fit-spec : {M : Type 1} → statement M
 unfolding Code.routine tablesOf
 counts-fit-spec {M} 𝓤 H 𝓜 𝓖 𝓡 = let w : World = record { M = M; 𝓤 = 𝓤; H = H; 𝓜 = 𝓜; 𝓖 = 𝓖; 𝓡 = 𝓡 } in
-    meets Says.counts-fit K 0 Code.function body answers w Code.env Key.name (Code.unfolded 𝓤 H 𝓜 𝓡) (count-of-reads.known w Code.env count-of-symbol.name count-of-symbol.routine Code.calls-reading·survey·count-of (count-of-met.met 𝓤 H 𝓜 𝓖 𝓡))
+    meets Says.counts-fit K 0 Code.function body answers w Code.env Key.name (Code.unfolded 𝓤 H 𝓜 𝓡) (count-of-reads.known w Code.env count-of-symbol.name count-of-symbol.routine Code.calls-records·numbers·count-of (count-of-met.met 𝓤 H 𝓜 𝓖 𝓡))

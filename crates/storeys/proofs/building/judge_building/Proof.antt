@@ -15,7 +15,7 @@ use borrow.Table.Rows.{sc-here}
 use Rattle.walk.proofs.Walk.{S, _⨾_, _▸_, told, at, from, set, op2, lit, cp, fld, sc, gone, old, forget, when, ret, u64}
 use Rattle.walk.proofs.Slice.{R, kept, full, here, sh-len, val-at, sh-at, sh-spares, sh-reads}
 use Rattle.walk.proofs.Fn.{Callee, Knows, Body, Answers, entry, callee, knows, call, meets}
-use Rattle.reading.proofs.Structs.{header, member, storey}
+use Rattle.records.proofs.Structs.{header, member, storey}
 use Rattle.storeys.proofs.building.counts_fit.Met as counts-fit-met
 use Rattle.storeys.proofs.building.counts_fit.Symbol as counts-fit-symbol
 use Rattle.storeys.proofs.Says as Says

@@ -2,7 +2,7 @@ use native.Mathlib.Omega.{arith}
 use lib.ListN.{length}
 use lib.Dec.{eqb}
 use borrow.Author.Tests.{ltb-true, ltb-false, eqb-true, eqb-false, not-true, not-false}
-use Rattle.reading.specs.First.{first}
+use Rattle.records.specs.First.{first}
 use Rattle.storeys.specs.Building.{noStorey, membersBefore, storeyRowsFault}
 use Rattle.storeys.proofs.BuildingRows.{none-before, next-before, next-within, rows-none, rows-all, own-refused, members-refused, rows-next}
 use Prim.Native.Nat.{ℕ, _+_, _-_, _≤_}
@@ -22,7 +22,7 @@ use borrow.Table.Rows.{sc-here}
 use Rattle.walk.proofs.Walk.{S, _⨾_, _▸_, _◂_, told, _then_, at, from, set, op2, lit, cp, fld, sc, gone, old, forget, falls, test, when, while, exits, ret, same, u64}
 use Rattle.walk.proofs.Slice.{R, kept, full, here, sh-ptr, sh-len, val-at, sh-at, sh-spares, sh-reads, sh-room, copy-val, elem-out, part, slice}
 use Rattle.walk.proofs.Fn.{Callee, Knows, Body, Answers, entry, callee, knows, call, meets}
-use Rattle.reading.proofs.Structs.{member, storey}
+use Rattle.records.proofs.Structs.{member, storey}
 use Rattle.storeys.proofs.row.storey_number.Met as storey-number-met
 use Rattle.storeys.proofs.row.storey_number.Symbol as storey-number-symbol
 use Rattle.storeys.proofs.row.storey_number.Kinds as storey-number-kinds
@@ -34,10 +34,10 @@ use Rattle.storeys.proofs.row.storey_row_fault.Met as storey-row-fault-
 use Rattle.storeys.proofs.row.storey_row_fault.Symbol as storey-row-fault-symbol
 use Rattle.storeys.proofs.row.storey_row_fault.Kinds as storey-row-fault-kinds
 use Rattle.storeys.proofs.row.storey_row_fault.Reads as storey-row-fault-reads
-use Rattle.reading.proofs.survey.count_of.Met as count-of-met
-use Rattle.reading.proofs.survey.count_of.Symbol as count-of-symbol
-use Rattle.reading.proofs.survey.count_of.Kinds as count-of-kinds
-use Rattle.reading.proofs.survey.count_of.Reads as count-of-reads
+use Rattle.records.proofs.numbers.count_of.Met as count-of-met
+use Rattle.records.proofs.numbers.count_of.Symbol as count-of-symbol
+use Rattle.records.proofs.numbers.count_of.Kinds as count-of-kinds
+use Rattle.records.proofs.numbers.count_of.Reads as count-of-reads
 use Rattle.storeys.proofs.storey.members_fault.Met as members-fault-met
 use Rattle.storeys.proofs.storey.members_fault.Symbol as members-fault-symbol
 use Rattle.storeys.proofs.building.rows_fault.Code
@@ -224,6 +224,6 @@ rows-fault-spec {M} 𝓤 H 𝓜 𝓖 𝓡 = let w : World = record { M = M; 𝓤
       storey-number-reads.known w Code.env storey-number-symbol.name storey-number-symbol.routine Code.calls-storeys·row·storey-number (storey-number-met.met 𝓤 H 𝓜 𝓖 𝓡),
       knows Says.storey-repeat-fault w Code.env storey-repeat-fault-symbol.name storey-repeat-fault-symbol.routine Code.calls-storeys·building·storey-repeat-fault (storey-repeat-fault-met.met 𝓤 H 𝓜 𝓖 𝓡),
       storey-row-fault-reads.known w Code.env storey-row-fault-symbol.name storey-row-fault-symbol.routine Code.calls-storeys·row·storey-row-fault (storey-row-fault-met.met 𝓤 H 𝓜 𝓖 𝓡),
-      count-of-reads.known w Code.env count-of-symbol.name count-of-symbol.routine Code.calls-reading·survey·count-of (count-of-met.met 𝓤 H 𝓜 𝓖 𝓡),
+      count-of-reads.known w Code.env count-of-symbol.name count-of-symbol.routine Code.calls-records·numbers·count-of (count-of-met.met 𝓤 H 𝓜 𝓖 𝓡),
       knows Says.members-fault w Code.env members-fault-symbol.name members-fault-symbol.routine Code.calls-storeys·storey·members-fault (members-fault-met.met 𝓤 H 𝓜 𝓖 𝓡),
     )

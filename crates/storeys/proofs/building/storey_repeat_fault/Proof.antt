@@ -2,7 +2,7 @@ use native.Mathlib.Omega.{arith}
 use lib.Dec.{eqb}
 use borrow.Author.Tests.{ltb-true, ltb-false}
 use mathlib.Core.Bool.{false}
-use Rattle.reading.specs.First.{any}
+use Rattle.records.specs.First.{any}
 use Rattle.storeys.specs.Building.{noStorey, storeyIn}
 use Rattle.storeys.proofs.BuildingRows.{repeat-none, repeat-next, repeat-found, repeat-all}
 use Prim.Native.Nat.{ℕ, _+_, _-_, _≤_}
@@ -18,7 +18,7 @@ use borrow.Table.Rows.{sc-here}
 use Rattle.walk.proofs.Walk.{S, _⨾_, _▸_, _◂_, told, at, from, set, op2, lit, cp, fld, sc, gone, old, forget, falls, test, when, while, exits, ret, same, u64}
 use Rattle.walk.proofs.Slice.{R, kept, full, here, sh-ptr, val-at, elem-out}
 use Rattle.walk.proofs.Fn.{Callee, Knows, Body, Answers, entry, call, meets}
-use Rattle.reading.proofs.Structs.{storey}
+use Rattle.records.proofs.Structs.{storey}
 use Rattle.storeys.proofs.Says as Says
 use Rattle.storeys.proofs.row.storey_number.Met as storey-number-met
 use Rattle.storeys.proofs.row.storey_number.Symbol as storey-number-symbol

@@ -23,15 +23,15 @@ use borrow.Table.Rows.{sc-here}
 use Rattle.walk.proofs.Walk.{S, _⨾_, _▸_, _◂_, told, _then_, at, from, set, op2, lit, cp, fld, sc, gone, old, forget, falls, test, while, exits, ret, same, u64}
 use Rattle.walk.proofs.Slice.{R, kept, full, here, sh-ptr, sh-len, val-at, sh-at, sh-spares, sh-reads, sh-room, copy-val, elem-out, part, slice}
 use Rattle.walk.proofs.Fn.{Callee, Knows, Body, Answers, entry, callee, knows, call, meets}
-use Rattle.reading.proofs.Structs.{member, storey}
+use Rattle.records.proofs.Structs.{member, storey}
 use Rattle.storeys.proofs.verdict.no_verdict.Met as no-verdict-met
 use Rattle.storeys.proofs.verdict.no_verdict.Symbol as no-verdict-symbol
 use Rattle.storeys.proofs.verdict.no_verdict.Kinds as no-verdict-kinds
 use Rattle.storeys.proofs.verdict.no_verdict.Reads as no-verdict-reads
-use Rattle.reading.proofs.survey.count_of.Met as count-of-met
-use Rattle.reading.proofs.survey.count_of.Symbol as count-of-symbol
-use Rattle.reading.proofs.survey.count_of.Kinds as count-of-kinds
-use Rattle.reading.proofs.survey.count_of.Reads as count-of-reads
+use Rattle.records.proofs.numbers.count_of.Met as count-of-met
+use Rattle.records.proofs.numbers.count_of.Symbol as count-of-symbol
+use Rattle.records.proofs.numbers.count_of.Kinds as count-of-kinds
+use Rattle.records.proofs.numbers.count_of.Reads as count-of-reads
 use Rattle.storeys.proofs.storey.found.Met as found-met
 use Rattle.storeys.proofs.storey.found.Symbol as found-symbol
 use Rattle.storeys.proofs.Says as Says
@@ -193,7 +193,7 @@ unfolding Code.routine tablesOf
 storeys-verdict-spec {M} 𝓤 H 𝓜 𝓖 𝓡 = let w : World = record { M = M; 𝓤 = 𝓤; H = H; 𝓜 = 𝓜; 𝓖 = 𝓖; 𝓡 = 𝓡 } in
     meets Says.storeys-verdict K 0 Code.function body answers w Code.env Key.name (Code.unfolded 𝓤 H 𝓜 𝓡) (
       no-verdict-reads.known w Code.env no-verdict-symbol.name no-verdict-symbol.routine Code.calls-storeys·verdict·no-verdict (no-verdict-met.met 𝓤 H 𝓜 𝓖 𝓡),
-      count-of-reads.known w Code.env count-of-symbol.name count-of-symbol.routine Code.calls-reading·survey·count-of (count-of-met.met 𝓤 H 𝓜 𝓖 𝓡),
+      count-of-reads.known w Code.env count-of-symbol.name count-of-symbol.routine Code.calls-records·numbers·count-of (count-of-met.met 𝓤 H 𝓜 𝓖 𝓡),
       knows Says.found w Code.env found-symbol.name found-symbol.routine Code.calls-storeys·storey·found (found-met.met 𝓤 H 𝓜 𝓖 𝓡),
       noted-reads.known w Code.env noted-symbol.name noted-symbol.routine Code.calls-storeys·verdict·noted (noted-met.met 𝓤 H 𝓜 𝓖 𝓡),
     )

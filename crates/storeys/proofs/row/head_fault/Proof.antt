@@ -1,7 +1,7 @@
 use mathlib.Core.Path.{sym, _∙_}
 use Prim.Native.Nat.{_-_}
 use borrow.Author.Tests.{eq-eqb, ne-eqb, not-true, not-false}
-use Rattle.reading.proofs.Firsts.{last-of}
+use Rattle.records.proofs.Firsts.{last-of}
 use borrow.Author.Needs.{needs}
 use Rattle.storeys.proofs.row.head_fault.Statement.{statement}
 use Rattle.storeys.proofs.row.head_fault.Tie as tie

@@ -13,7 +13,7 @@ use borrow.Table.Rows.{any-gone, sc-here, any-gone}
 use Rattle.walk.proofs.Walk.{told, S, _⨾_, _▸_, at, from, set, op2, lit, cp, fld, sc, gone, old, forget, when, ret, u64}
 use Rattle.walk.proofs.Slice.{ty, R, kept, full, here, sh-len, val-at, sh-at, sh-spares, sh-reads}
 use Rattle.walk.proofs.Fn.{Callee, Knows, Body, Answers, entry, callee, knows, call, meets}
-use Rattle.reading.proofs.Structs.{member, storey}
+use Rattle.records.proofs.Structs.{member, storey}
 use Rattle.storeys.proofs.Structs.{storeyfinding, storeyjudgment}
 use Rattle.storeys.proofs.row.head_fault.Met as head-fault-met
 use Rattle.storeys.proofs.row.head_fault.Symbol as head-fault-symbol

@@ -5,7 +5,7 @@ use mathlib.Core.Path.{_≡_, refl}
 use lib.ListN.{length}
 use borrow.Author.Tests.{ltb-true, ltb-false, eqb-true, eqb-false, not-true, not-false}
 use Rattle.storeys.specs.Storey.{noMember, rowFault}
-use Rattle.reading.specs.First.{first}
+use Rattle.records.specs.First.{first}
 use Rattle.storeys.proofs.Loops.{clear-none, refused-here, clear-next, clear-all}
 use contract.Lifetimes.{Lfts, Shares}
 use contract.Running.{tablesOf}
@@ -19,7 +19,7 @@ use borrow.Table.Rows.{sc-here}
 use Rattle.walk.proofs.Walk.{S, _⨾_, _▸_, _◂_, told, _then_, at, from, set, op2, lit, cp, fld, sc, gone, old, forget, falls, test, when, while, exits, ret, same, u64}
 use Rattle.walk.proofs.Slice.{R, kept, full, here, sh-ptr, sh-len, val-at, sh-at, sh-spares, sh-reads, copy-val, elem-out}
 use Rattle.walk.proofs.Fn.{Callee, Knows, Body, Answers, entry, callee, knows, call, meets}
-use Rattle.reading.proofs.Structs.{member}
+use Rattle.records.proofs.Structs.{member}
 use Rattle.storeys.proofs.row.number_of.Met as number-of-met
 use Rattle.storeys.proofs.row.number_of.Symbol as number-of-symbol
 use Rattle.storeys.proofs.row.number_of.Kinds as number-of-kinds

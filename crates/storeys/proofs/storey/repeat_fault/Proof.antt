@@ -6,7 +6,7 @@ use mathlib.Core.Path.{_≡_, refl}
 use lib.Dec.{eqb}
 use borrow.Author.Tests.{ltb-true, ltb-false}
 use Rattle.storeys.specs.Storey.{noMember, memberIn}
-use Rattle.reading.specs.First.{any}
+use Rattle.records.specs.First.{any}
 use Rattle.storeys.proofs.Loops.{unseen, unseen-next, seen-here, unseen-all}
 use contract.Lifetimes.{Lfts, Shares}
 use contract.Running.{tablesOf}
@@ -18,7 +18,7 @@ use borrow.Table.Rows.{sc-here}
 use Rattle.walk.proofs.Walk.{S, _⨾_, _▸_, _◂_, told, at, from, set, op2, lit, cp, fld, sc, gone, old, forget, falls, test, when, while, exits, ret, same, u64}
 use Rattle.walk.proofs.Slice.{R, kept, full, here, sh-ptr, val-at, elem-out}
 use Rattle.walk.proofs.Fn.{Callee, Knows, Body, Answers, entry, call, meets}
-use Rattle.reading.proofs.Structs.{member}
+use Rattle.records.proofs.Structs.{member}
 use Rattle.storeys.proofs.Says as Says
 use Rattle.storeys.proofs.row.number_of.Met as number-of-met
 use Rattle.storeys.proofs.row.number_of.Symbol as number-of-symbol

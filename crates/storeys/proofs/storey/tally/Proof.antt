@@ -19,7 +19,7 @@ use borrow.Table.Rows.{sc-here}
 use Rattle.walk.proofs.Walk.{S, _⨾_, _▸_, _◂_, told, at, from, set, op2, lit, cp, fld, sc, gone, old, forget, falls, test, while, exits, ret, same, u64}
 use Rattle.walk.proofs.Slice.{R, kept, full, here, sh-ptr, sh-len, val-at, copy-val, elem-out}
 use Rattle.walk.proofs.Fn.{Callee, Knows, Body, Answers, entry, call, meets}
-use Rattle.reading.proofs.Structs.{member}
+use Rattle.records.proofs.Structs.{member}
 use Rattle.storeys.proofs.Structs.{tally}
 use Rattle.storeys.proofs.Says as Says
 use Rattle.storeys.proofs.row.no_tally.Met as no-tally-met

@@ -5,7 +5,7 @@ use mathlib.Core.Path.{_≡_, refl}
 use lib.ListN.{length, drop}
 use borrow.Author.Tests.{ltb-true, ltb-false}
 use Rattle.storeys.specs.Storey.{noMember, wallShear}
-use Rattle.reading.specs.Totals.{total}
+use Rattle.records.specs.Totals.{total}
 use Rattle.storeys.proofs.Loops.{wall-room, wall-next, wall-all}
 use contract.Lifetimes.{Lfts, Shares}
 use contract.Running.{tablesOf}
@@ -18,7 +18,7 @@ use borrow.Table.Rows.{sc-here}
 use Rattle.walk.proofs.Walk.{S, _⨾_, _▸_, _◂_, told, at, from, set, op2, lit, cp, fld, sc, gone, old, forget, falls, test, while, exits, ret, same, u64}
 use Rattle.walk.proofs.Slice.{R, kept, full, here, sh-ptr, sh-len, val-at, elem-out}
 use Rattle.walk.proofs.Fn.{Callee, Knows, Body, Answers, entry, call, meets}
-use Rattle.reading.proofs.Structs.{member}
+use Rattle.records.proofs.Structs.{member}
 use Rattle.storeys.proofs.Says as Says
 use Rattle.storeys.proofs.row.add_wall.Met as add-wall-met
 use Rattle.storeys.proofs.row.add_wall.Symbol as add-wall-symbol

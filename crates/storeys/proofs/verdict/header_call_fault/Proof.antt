@@ -1,6 +1,6 @@
 use mathlib.Core.Path.{_∙_}
 use borrow.Author.Tests.{eq-eqb, ne-eqb, not-true, not-false}
-use Rattle.reading.proofs.Firsts.{last-of}
+use Rattle.records.proofs.Firsts.{last-of}
 use borrow.Author.Needs.{needs}
 use Rattle.storeys.proofs.verdict.header_call_fault.Statement.{statement}
 use Rattle.storeys.proofs.verdict.header_call_fault.Tie as tie

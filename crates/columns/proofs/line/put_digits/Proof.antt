@@ -1,0 +1,72 @@
+use Prim.Native.Nat.{_≤_}
+use native.Mathlib.Omega.{arith}
+use mathlib.Core.Path.{_≡_, refl, _∙_}
+use lib.ListN.{length, length-set}
+use borrow.Author.Needs.{needs}
+use Rattle.columns.specs.Line.{digitsOver}
+use Rattle.columns.proofs.Digits.{over-last, over-more, over-none}
+use Rattle.columns.proofs.line.put_digits.Statement.{statement}
+use Rattle.columns.proofs.line.put_digits.Tie as tie
+
+abbrev Inv-loop : tie.InvT-loop
+Inv-loop out₀ at n q₀ left₀ out q left = (left ≤ 12) × (length out ≡ length out₀) × (digitsOver out at left q ≡ digitsOver out₀ at 12 n)
+
+abbrev μ-loop : tie.MeasureT-loop
+μ-loop out₀ at n q₀ left₀ out q left = left
+
+loop-holds : tie.Need-loop-holds Inv-loop μ-loop
+loop-holds c = (omega arith, refl, refl)
+
+sub-left : tie.Need-sub-left Inv-loop μ-loop
+sub-left c = search needs
+
+cast-out : tie.Need-cast-out Inv-loop μ-loop
+cast-out c = search needs
+
+add-out : tie.Need-add-out Inv-loop μ-loop
+add-out c = search needs
+
+add-out-2 : tie.Need-add-out-2 Inv-loop μ-loop
+add-out-2 c = search needs
+
+slice-write-out : tie.Need-slice-write-out Inv-loop μ-loop
+slice-write-out c = omega arith
+
+same-length : tie.Need-same-length Inv-loop μ-loop
+same-length c = simp length-set (c .before .before .loop .inv .1)
+
+returns : tie.Need-returns Inv-loop μ-loop
+returns c = let l = c .before .before .loop in over-last (l .out) _ (l .left) (l .q) (c .before .loop-test .taken) (c .if1 .taken) ∙ l .inv .2
+
+loop-less : tie.Need-loop-less Inv-loop μ-loop
+loop-less c = search needs
+
+loop-again : tie.Need-loop-again Inv-loop μ-loop
+loop-again c =
+    let l = c .before .before .loop in
+    (omega arith, simp length-set (l .inv .1), over-more (l .out) _ (l .left) (l .q) (c .before .loop-test .taken) (c .if1 .left) ∙ l .inv .2)
+
+same-length-2 : tie.Need-same-length-2 Inv-loop μ-loop
+same-length-2 c = c .before .loop .inv .1
+
+returns-2 : tie.Need-returns-2 Inv-loop μ-loop
+returns-2 c = let l = c .before .loop in over-none (l .out) _ (l .left) (l .q) (omega arith) ∙ l .inv .2
+
+pub put-digits-spec : {M : Type 1} → statement M
+put-digits-spec =
+    tie.close
+    (tie.spec
+    Inv-loop
+    μ-loop
+    loop-holds
+    sub-left
+    cast-out
+    add-out
+    add-out-2
+    slice-write-out
+    same-length
+    returns
+    loop-less
+    loop-again
+    same-length-2
+    returns-2)

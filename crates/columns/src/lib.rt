@@ -1,0 +1,2 @@
+// Putting text and numbers in columns into lent bytes.
+pub mod line;

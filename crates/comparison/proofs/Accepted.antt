@@ -1,0 +1,116 @@
+-- What demand 3 takes of an accepted survey: its storeys and members are good records, and the calls on them answer their findings.
+use Prim.Native.Nat.{ℕ, _≤_, _<_}
+use native.Mathlib.Omega.{arith}
+use mathlib.Core.Bool.{Bool, true, false, _||_}
+use mathlib.Core.List.{List, [], _∷_}
+use mathlib.Core.Path.{_≡_, refl, sym, ap, _∙_}
+use lib.Dec.{eqb}
+use lib.ListN.{length}
+use borrow.Author.Tests.{eqb-true, eq-eqb, leb-true}
+use Rattle.records.specs.First.{pick, every}
+use Rattle.records.specs.Records.{inRange, storeyValues, storeyFault, memberFault, repeated}
+use Rattle.records.specs.declared.Header.{Header}
+use Rattle.records.specs.declared.Storey.{Storey}
+use Rattle.records.specs.declared.Member.{Member}
+use Rattle.records.specs.declared.Tag.the-variants.{S}
+use Rattle.records.proofs.Below.{and-left, every-at}
+use Rattle.records.proofs.Validity.{clear}
+use Rattle.members.specs.Finding.{knowledge, answerBy}
+use Rattle.storeys.specs.declared.BuildingFinding.{BuildingFinding}
+use Rattle.storeys.specs.declared.BuildingAnswer.{BuildingAnswer}
+use Rattle.storeys.specs.declared.BuildingAnswer.the-variants.{Judged, Refused}
+use Rattle.storeys.specs.Storey.{Rules, meetsWallShare, over, overShear, storeyRisky, storeyFinding, countFault, knowledgeFault, shearFault, noMember, memberIn, rowFault, memberRowsFault, storeyCallFault, storeyAnswerBy}
+use Rattle.storeys.specs.Building.{storeyIn, membersOf, shearFaultAt, buildingFault, buildingRisky, buildingFinding, buildingAnswerBy, placeIn, returnedBuilding}
+use Rattle.comparison.specs.Demand3.{Survey, knowledgeOf, StoreyMembers, storeyMembersAt, storeysMembers, Accepted, overIn, riskyIn, buildingRiskyIn}
+use Rattle.comparison.proofs.Pairs.{All, all-rows, all-listed}
+use Rattle.comparison.proofs.Tests.{never}
+use Rattle.storeys.proofs.Refusals.{None, end, also, one, rest, in-order-clear, in-order-none, first-clear}
+use Rattle.storeys.proofs.Accepted.{known-level, members-counted, total-counted, rows, checks}
+
+-- a storey on which the call refuses nothing
+pub record Sound (rules : Rules) (k : ℕ) (f : StoreyMembers) : Type 0 where
+  pub known : knowledge k ≡ true
+  pub count : f .storey .count ≡ length (f .members)
+  pub storey : storeyFault (f .storey) ≡ 0
+  pub members : memberRowsFault (f .members) ≡ 0
+  pub shear : shearFault (overShear rules k (meetsWallShare (f .storey .shear) (f .members)) (f .members)) ≡ 0
+
+pub level-positive : (k : ℕ) → knowledge k ≡ true → 0 < k
+level-positive k e = go (eqb k 90) (eqb k 100) refl refl e
+  where
+    go : (s t : Bool) → eqb k 90 ≡ s → eqb k 100 ≡ t → (s || t) ≡ true → 0 < k
+    go true t f g h = omega (arith, eqb-true k 90 f)
+    go false true f g h = omega (arith, eqb-true k 100 g)
+    go false false f g h = absurd (never h)
+
+module _ (rules : Rules) (h : Header) (ss : List Storey) (ms : List Member) (none : buildingFault rules h ss ms ≡ 0) where
+  sound-at : (i : ℕ) → i < length ss → Sound rules (h .knowledge) (record { storey = storeyIn ss i; members = membersOf ss ms i })
+  unfolding shearFaultAt
+  sound-at i l =
+      record {
+        known = known-level rules h ss ms none;
+        count = members-counted ss ms i (total-counted rules h ss ms none);
+        storey = one (rows rules h ss ms none i l);
+        members = one (rest (rest (rows rules h ss ms none i l)));
+        shear = first-clear (shearFaultAt rules (h .knowledge) ss ms) (length ss) (one (rest (rest (rest (checks rules h ss ms none))))) i l;
+      }
+
+  verdict-at : (place : ℕ) → buildingRiskyIn (buildingAnswerBy rules h ss ms place) ≡ buildingRisky rules h ss ms
+  unfolding buildingAnswerBy buildingFinding
+  verdict-at place = rw (eq-eqb _ _ none)
+
+-- a sound storey has members, and they are good records
+storey-members : (s : Storey) → storeyFault s ≡ 0 → 1 ≤ s .count
+unfolding storeyFault
+storey-members s e =
+    let c = every-at (inRange S (storeyValues s)) 3 2 (clear (every (inRange S (storeyValues s)) 3) 0 3 e (omega arith) .0) (omega arith) in
+    leb-true 1 (s .count) (and-left _ _ c)
+
+module _ (rules : Rules) (k : ℕ) (f : StoreyMembers) (sound : Sound rules k f) where
+  pub has-members : 0 < length (f .members)
+  has-members = omega (arith, sound .count, storey-members (f .storey) (sound .storey))
+
+  row : (j : ℕ) → j < length (f .members) → None (memberFault (memberIn (f .members) j) ∷ repeated (λ e. memberIn (f .members) e .number) j ∷ [])
+  unfolding memberRowsFault rowFault
+  row j l = in-order-clear _ (first-clear (rowFault (f .members)) (length (f .members)) (sound .members) j l)
+
+  pub good-members : All (λ m. memberFault m ≡ 0) (f .members)
+  good-members = all-rows (λ m. memberFault m ≡ 0) noMember (f .members) (λ j l. one (row j l))
+
+  -- so the calls on it and on its members answer their findings
+  call-clear : storeyCallFault rules k (f .storey) (f .members) ≡ 0
+  unfolding storeyCallFault
+  call-clear =
+      let count : countFault (f .storey .count) (length (f .members)) ≡ 0 = rw (eq-eqb _ _ (sound .count)) in
+      let known : knowledgeFault k ≡ 0 = rw (sound .known) in
+      in-order-none (also count (also known (also (sound .storey) (also (sound .members) (also (sound .shear) end)))))
+
+  pub risky-found : riskyIn (storeyAnswerBy rules k (f .storey) (f .members)) ≡ storeyRisky rules k (f .storey .shear) (f .members)
+  unfolding storeyAnswerBy storeyFinding
+  risky-found = rw (eq-eqb _ _ call-clear)
+
+  pub over-found : (met : Bool) (m : Member) → memberFault m ≡ 0 → overIn (answerBy (rules .limits) k met m) ≡ over rules k met m
+  unfolding answerBy
+  over-found met m e = rw (sound .known, eq-eqb _ _ e)
+
+-- an accepted survey
+clear-by : (t : Bool) (fault : ℕ) (f : BuildingFinding) → eqb fault 0 ≡ t → returnedBuilding (pick t (Judged f) (Refused fault)) .refusal ≡ 0 → fault ≡ 0
+clear-by true fault f e h = eqb-true fault 0 e
+clear-by false fault f e h = h
+
+module _ (rules : Rules) (a : Survey) (r : BuildingAnswer) (acc : Accepted rules a r) where
+  pub building-clear : buildingFault rules (a .header) (a .storeys) (a .members) ≡ 0
+  unfolding buildingAnswerBy
+  building-clear =
+      let e = ap (λ x. returnedBuilding x .refusal) (acc .answers .same) in
+      clear-by (eqb (buildingFault rules (a .header) (a .storeys) (a .members)) 0) _ _ refl (sym e ∙ acc .no-refusal)
+
+  pub verdict-found : buildingRiskyIn r ≡ buildingRisky rules (a .header) (a .storeys) (a .members)
+  verdict-found = ap buildingRiskyIn (acc .answers .same) ∙ verdict-at rules (a .header) (a .storeys) (a .members) building-clear (placeIn r)
+
+  pub level-known : knowledge (knowledgeOf a) ≡ true
+  level-known = known-level rules (a .header) (a .storeys) (a .members) building-clear
+
+  pub sound-storeys : All (Sound rules (knowledgeOf a)) (storeysMembers a)
+  sound-storeys =
+      all-listed (Sound rules (knowledgeOf a)) (storeyMembersAt a) (length (a .storeys)) (sound-at rules (a .header) (a .storeys) (a .members) building-clear)

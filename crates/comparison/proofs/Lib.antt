@@ -1,0 +1,11 @@
+pub mod Tests
+pub mod Pairs
+pub mod Places
+pub mod Partners
+pub mod Share
+pub mod Damage
+pub mod Storeys
+pub mod Accepted
+pub mod Demand3
+pub mod Example
+pub mod Needed

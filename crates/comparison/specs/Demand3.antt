@@ -1,0 +1,152 @@
+-- Demand 3 of the mission: a survey that is nowhere better never clears a member, a storey or a building. Its words, then the claim.
+use Prim.Native.Nat.{ℕ, _≤_}
+use mathlib.Core.Bool.{Bool, true, false}
+use mathlib.Core.List.{List}
+use mathlib.Core.Path.{_≡_}
+use lib.ListN.{length}
+use Rattle.records.specs.Totals.{listed}
+use Rattle.records.specs.declared.Header.{Header}
+use Rattle.records.specs.declared.Storey.{Storey}
+use Rattle.records.specs.declared.Member.{Member}
+use Rattle.members.specs.declared.class.Class.the-variants.{ColumnC}
+use Rattle.members.specs.declared.finding.MemberAnswer.{MemberAnswer}
+use Rattle.members.specs.declared.finding.MemberAnswer.the-variants.{Judged as JudgedMember, Refused as RefusedMember}
+use Rattle.members.specs.Class.{isWall, classOf}
+use Rattle.members.specs.Finding.{answerBy}
+use Rattle.storeys.specs.declared.StoreyAnswer.{StoreyAnswer}
+use Rattle.storeys.specs.declared.StoreyAnswer.the-variants.{Judged as JudgedStorey, Refused as RefusedStorey}
+use Rattle.storeys.specs.declared.BuildingAnswer.{BuildingAnswer}
+use Rattle.storeys.specs.declared.BuildingAnswer.the-variants.{Judged as JudgedBuilding, Refused as RefusedBuilding}
+use Rattle.storeys.specs.Storey.{Rules, publishedRules, meetsWallShare, storeyAnswerBy}
+use Rattle.storeys.specs.Building.{storeyIn, membersOf, Answers, returnedBuilding}
+use Rattle.comparison.specs.Pairing.{Pairing, EveryPair}
+
+-- SURVEY: "a header with its storeys and members as records", which are the arguments of the call on a building
+pub record Survey : Type 0 where
+  pub header : Header
+  pub storeys : List Storey
+  pub members : List Member
+
+-- the knowledge level k of a survey
+abbrev pub knowledgeOf : Survey → ℕ
+knowledgeOf a = a .header .knowledge
+
+-- a storey with its members
+pub record StoreyMembers : Type 0 where
+  pub storey : Storey
+  pub members : List Member
+
+abbrev pub storeyMembersAt : Survey → ℕ → StoreyMembers
+storeyMembersAt a i = record { storey = storeyIn (a .storeys) i; members = membersOf (a .storeys) (a .members) i }
+
+-- all the storeys of a survey, each with the members that the call on a building gives it
+abbrev pub storeysMembers : Survey → List StoreyMembers
+storeysMembers a = listed (storeyMembersAt a) (length (a .storeys))
+
+-- ACCEPTED: "the building call returns no refusal for it"; r is that call's answer, whichever Risky storey it names
+pub record Accepted (rules : Rules) (a : Survey) (r : BuildingAnswer) : Type 0 where
+  pub answers : Answers rules (a .header) (a .storeys) (a .members) r
+  pub no-refusal : returnedBuilding r .refusal ≡ 0
+
+-- OVER and RISKY: "what the calls on a member, a storey and a building answer, each member judged with the k of its survey and the 0.40
+-- condition of its storey"
+abbrev pub overIn : MemberAnswer → Bool
+overIn (JudgedMember f) = f .over
+overIn (RefusedMember n) = false
+
+abbrev pub riskyIn : StoreyAnswer → Bool
+riskyIn (JudgedStorey f) = f .risky
+riskyIn (RefusedStorey n) = false
+
+abbrev pub buildingRiskyIn : BuildingAnswer → Bool
+buildingRiskyIn (JudgedBuilding f) = f .risky
+buildingRiskyIn (RefusedBuilding n) = false
+
+abbrev pub Over : Rules → Survey → StoreyMembers → Member → Type 0
+Over rules a f m =
+    overIn (answerBy (rules .limits) (knowledgeOf a) (meetsWallShare (f .storey .shear) (f .members)) m) ≡ true
+
+abbrev pub Risky : Rules → Survey → StoreyMembers → Type 0
+Risky rules a f = riskyIn (storeyAnswerBy rules (knowledgeOf a) (f .storey) (f .members)) ≡ true
+
+abbrev pub BuildingRisky : BuildingAnswer → Type 0
+BuildingRisky r = buildingRiskyIn r ≡ true
+
+-- PAIRED OFF: "any way of pairing off all their storeys one to one, and each storey's members with those of its partner, in whatever order
+-- either lists them"
+abbrev pub MemberPairs : List Member → List Member → Type 0
+MemberPairs ms ns = Pairing (λ m n. Unit) ms ns
+
+abbrev pub StoreyPairs : Survey → Survey → Type 0
+StoreyPairs a b = Pairing (λ f g. MemberPairs (f .members) (g .members)) (storeysMembers a) (storeysMembers b)
+
+-- NOWHERE BETTER, of two partners m and n, judged with the level k
+pub record AtLeastAsSevere (k : ℕ) (m n : Member) : Type 0 where
+  -- "equal sections, hoop spacings": fields 2 to 4 and 8 to 11
+  pub long : m .long ≡ n .long
+  pub short : m .short ≡ n .short
+  pub area : m .area ≡ n .area
+  pub depth : m .depth ≡ n .depth
+  pub height : m .height ≡ n .height
+  pub spacing : m .spacing ≡ n .spacing
+  pub core : m .core ≡ n .core
+  -- "strengths": 5 to 7
+  pub fcm : m .fcm ≡ n .fcm
+  pub fctm : m .fctm ≡ n .fctm
+  pub fyw : m .fyw ≡ n .fyw
+  -- "marks": 13 to 15
+  pub hooks : m .hooks ≡ n .hooks
+  pub zone : m .zone ≡ n .zone
+  pub strengthened : m .strengthened ≡ n .strengthened
+  -- "wall shears": 24 of walls
+  pub wall-shear : isWall m ≡ true → m .case .shear ≡ n .case .shear
+  -- "no axial load, moment demand, V_e, rotation, drift, .. column shear or damage is lower": 18 and 19, which are held in the order of the signed
+  -- forces, 20, 22, 25, 26, 24 of columns and 17
+  pub nd : m .nd ≤ n .nd
+  pub nk : m .case .nk ≤ n .case .nk
+  pub me : m .case .me ≤ n .case .me
+  pub ve : m .case .ve ≤ n .case .ve
+  pub rotation : m .case .rotation ≤ n .case .rotation
+  pub drift : m .case .drift ≤ n .case .drift
+  pub column-shear : isWall m ≡ false → m .case .shear ≤ n .case .shear
+  pub damage : m .damage ≤ n .damage
+  -- "no capacity, hoop area or reduction factor is higher": 21, 23, 12 and 16
+  pub mp : n .case .mp ≤ m .case .mp
+  pub vr : n .case .vr ≤ m .case .vr
+  pub hoops : n .hoops ≤ m .hoops
+  pub factor : n .factor ≤ m .factor
+  -- "every wall has its partner's class"
+  pub wall-class : isWall m ≡ true → classOf k m ≡ classOf k n
+  -- "no strengthened column of the second is C unless its partner is"
+  pub strengthened-c : isWall n ≡ false → n .strengthened ≡ 1 → classOf k n ≡ ColumnC → classOf k m ≡ ColumnC
+
+-- of two storeys that are partners, and their members' pairs
+pub record AtLeastAsSevereStorey (k : ℕ) (f g : StoreyMembers) (ms : MemberPairs (f .members) (g .members)) : Type 0 where
+  -- "equal .. storey shears"
+  pub shear : f .storey .shear ≡ g .storey .shear
+  pub members : EveryPair (λ m n u. AtLeastAsSevere k m n) ms
+
+-- of two surveys and their storeys' pairs
+pub record NowhereBetter (a b : Survey) (pairs : StoreyPairs a b) : Type 0 where
+  -- "equal knowledge level"
+  pub knowledge : knowledgeOf a ≡ knowledgeOf b
+  -- "no .. tilt": each against the one in the same field
+  pub tilt1 : a .header .tilt1 ≤ b .header .tilt1
+  pub tilt2 : a .header .tilt2 ≤ b .header .tilt2
+  pub storeys : EveryPair (λ f g ms. AtLeastAsSevereStorey (knowledgeOf a) f g ms) pairs
+
+-- CARRIED, over the same pairs: "every member over in the first has a partner over in the second, every storey Risky in the first has a partner Risky in
+-- the second, and where the first building is Risky, so is the second"
+pub record Carried (rules : Rules) (a b : Survey) (r q : BuildingAnswer) (pairs : StoreyPairs a b) : Type 0 where
+  pub members : EveryPair (λ f g ms. EveryPair (λ m n u. Over rules a f m → Over rules b g n) ms) pairs
+  pub storeys : EveryPair (λ f g ms. Risky rules a f → Risky rules b g) pairs
+  pub building : BuildingRisky r → BuildingRisky q
+
+-- DEMAND 3: "Take any two accepted surveys and any way of pairing off all their storeys one to one, and each storey's members with those of its partner":
+-- where the second is nowhere better, every finding is carried. By any rules, and by the published ones
+abbrev pub Demand3By : Rules → Type 0
+Demand3By rules =
+    (a b : Survey) (r q : BuildingAnswer) → Accepted rules a r → Accepted rules b q → (pairs : StoreyPairs a b) → NowhereBetter a b pairs → Carried rules a b r q pairs
+
+abbrev pub Demand3 : Type 0
+Demand3 = Demand3By publishedRules

@@ -1,0 +1,3 @@
+pub mod Pairing
+pub mod Demand3
+pub mod Needed

@@ -1,0 +1,10 @@
+pub mod Columns
+pub mod Written
+pub mod Spelt
+pub mod Scan
+pub mod Fields
+pub mod Shape
+pub mod Held
+pub mod LineText
+pub mod Typed
+pub mod Framed

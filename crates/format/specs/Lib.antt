@@ -1,0 +1,4 @@
+pub mod Spelling
+pub mod Lines
+pub mod Field
+pub mod Text

@@ -1,0 +1,208 @@
+// The lines of a survey file.
+ghost use mathlib.Core.Path.{_≡_};
+ghost use mathlib.Core.Bool.{_&&_};
+ghost use Prim.Native.Nat.{_+_, _*_, _≤_};
+ghost use lib.ListN.{length, drop, getD};
+ghost use Rattle.records.specs.First.{pick};
+ghost use Rattle.records.specs.Records.{allows, never, ranges, fields};
+ghost use Rattle.format.specs.Field.{optionOf, framed, holdsFields, FieldsHeld, FieldsOf};
+ghost use Rattle.format.specs.Lines.{tagByte, lineEnd, shaped, isForce, valueAt, isWritten, faultIn, fieldsFault};
+ghost use Rattle.records.specs.declared.Tag.the-variants.{M};
+use crate::cursor::Cursor;
+use crate::cursor::Field;
+use crate::cursor::next_of;
+use crate::cursor::number_of;
+use records::Header;
+use records::LoadCase;
+use records::Member;
+use records::Storey;
+use records::Tag;
+use records::ranges::field_count;
+use records::ranges::range_allows;
+
+fn tag_byte(tag: Tag) -> u8
+    ensures { λ r. ⌜ r ≡ tagByte tag ⌝ }
+{
+    match tag {
+        Tag::B => b'B',
+        Tag::S => b'S',
+        Tag::M => b'M',
+    }
+}
+
+// The place of the first LF from `at` on, or the end.
+fn line_end(s: &[u8], at: usize) -> usize
+    requires { ⌜ at ≤ length (now s) ⌝ }
+    ensures { λ r. ⌜ r ≡ at + lineEnd (drop at (now (s .entry))) ⌝ }
+{
+    let mut i = at;
+    while i < s.len() {
+        if s[i] == b'\n' {
+            return i;
+        }
+        i += 1;
+    }
+    i
+}
+
+// A line of this tag begins at `at`.
+pub fn is_shaped(s: &[u8], at: usize, tag: Tag) -> bool
+    ensures { λ r. ⌜ r ≡ shaped tag (drop at (now (s .entry))) ⌝ }
+{
+    if s.len() <= at {
+        return false;
+    }
+    if s[at] != tag_byte(tag) {
+        return false;
+    }
+    let end = line_end(s, at);
+    if end - at != 8 * field_count(tag) + 1 {
+        return false;
+    }
+    end < s.len()
+}
+
+// The tag and the LF of a line of this tag stand where they must.
+pub fn is_framed(s: &[u8], at: usize, tag: Tag) -> bool
+    ensures { λ r. ⌜ r ≡ framed tag (drop at (now (s .entry))) ⌝ }
+{
+    let last = 8 * field_count(tag) + 1;
+    if s.len() <= at {
+        return false;
+    }
+    if s.len() - at <= last {
+        return false;
+    }
+    if s[at] != tag_byte(tag) {
+        return false;
+    }
+    s[at + last] == b'\n'
+}
+
+fn is_force(tag: Tag, j: usize) -> bool
+    ensures { λ r. ⌜ r ≡ isForce tag j ⌝ }
+{
+    match tag {
+        Tag::B => false,
+        Tag::S => false,
+        Tag::M => is_force_field(j),
+    }
+}
+
+fn is_force_field(j: usize) -> bool
+    ensures { λ r. ⌜ r ≡ isForce M j ⌝ }
+{
+    if j == 17 {
+        return true;
+    }
+    j == 18
+}
+
+// 2 or 3 of field j, or 0.
+fn fault_of(f: Field, tag: Tag, j: usize, storeys: u64) -> u64
+    ensures { λ r. ⌜ r ≡ faultIn (optionOf f) (getD (ranges tag storeys) j never) ⌝ }
+{
+    match f {
+        Field::Number(v, _) => range_fault(tag, j, v, storeys),
+        Field::Miswritten(_) => 2,
+    }
+}
+
+fn range_fault(tag: Tag, j: usize, v: u64, storeys: u64) -> u64
+    ensures { λ r. ⌜ r ≡ pick (allows (getD (ranges tag storeys) j never) v) 0 3 ⌝ }
+{
+    if range_allows(tag, j, v, storeys) {
+        return 0;
+    }
+    3
+}
+
+// The numbers of a line's fields, in order, and whether all of them are written as they must be.
+pub struct Fields {
+    pub written: bool,
+    pub values: [u64; 26],
+}
+
+fn written_too(written: bool, f: Field) -> bool
+    ensures { λ r. ⌜ r ≡ (written && isWritten (optionOf f)) ⌝ }
+{
+    match f {
+        Field::Number(_, _) => written,
+        Field::Miswritten(_) => false,
+    }
+}
+
+// The bytes hold the fields of a line of this tag.
+fn holds_fields(s: &[u8], at: usize, tag: Tag) -> bool
+    ensures { λ r. ⌜ r ≡ holdsFields tag (now (s .entry)) at ⌝ }
+{
+    let size = 1 + 8 * field_count(tag);
+    if s.len() < size {
+        return false;
+    }
+    at <= s.len() - size
+}
+
+fn fields_held(s: &[u8], at: usize, tag: Tag) -> Fields
+    requires { ⌜ at + 1 + 8 * fields tag ≤ length (now s) ⌝ }
+    ensures { λ r. ⌜ FieldsHeld tag (now (s .entry)) at r ⌝ }
+{
+    let n = field_count(tag);
+    let mut values = [0u64; 26];
+    let mut written = true;
+    let mut c = Cursor { at: at + 1 };
+    let mut j = 0;
+    while j < n {
+        let f = c.field(s, is_force(tag, j));
+        values[j] = number_of(f);
+        written = written_too(written, f);
+        c = next_of(f);
+        j += 1;
+    }
+    Fields { written, values }
+}
+
+// The line's fields; where the bytes end before them, none is written.
+pub fn read_fields(s: &[u8], at: usize, tag: Tag) -> Fields
+    ensures { λ r. ⌜ FieldsOf tag (now (s .entry)) at r ⌝ }
+{
+    if !holds_fields(s, at, tag) {
+        return Fields {
+            written: false,
+            values: [0u64; 26],
+        };
+    }
+    fields_held(s, at, tag)
+}
+
+// The first refusal among a line's fields, of which the third holds `storeys`.
+fn first_fault(s: &[u8], at: usize, tag: Tag, storeys: u64) -> u64
+    requires { ⌜ (at + 1 + 8 * fields tag ≤ length (now s)) × (storeys ≡ valueAt tag (now s) at 2) ⌝ }
+    ensures { λ r. ⌜ r ≡ fieldsFault tag (now (s .entry)) at ⌝ }
+{
+    let n = field_count(tag);
+    let mut c = Cursor { at: at + 1 };
+    let mut j = 0;
+    while j < n {
+        let f = c.field(s, is_force(tag, j));
+        let x = fault_of(f, tag, j, storeys);
+        if x != 0 {
+            return x;
+        }
+        c = next_of(f);
+        j += 1;
+    }
+    0
+}
+
+// The first refusal among a line's fields; 1 where the bytes end before them.
+pub fn fields_fault(s: &[u8], at: usize, tag: Tag) -> u64
+    ensures { λ r. ⌜ r ≡ pick (holdsFields tag (now (s .entry)) at) (fieldsFault tag (now (s .entry)) at) 1 ⌝ }
+{
+    if !holds_fields(s, at, tag) {
+        return 1;
+    }
+    let third = Cursor { at: at + 17 };
+    let f = third.field(s, is_force(tag, 2));
+    first_fault(s, at, tag, number_of(f))
+}

@@ -1,0 +1,61 @@
+-- Laws of tests, and of `every` and `any`: tests over the numbers below a bound.
+use Prim.Native.Nat.{ℕ, zero, suc, _+_, _<_}
+use native.Mathlib.Omega.{arith}
+use native.Mathlib.Nat.{not-suc-le-zero, eq-or-lt-of-le, le-of-suc-le-suc}
+use native.Mathlib.Numerals.{add-one}
+use mathlib.Core.Bool.{Bool, true, false, _&&_, and-false, or-true}
+use mathlib.Core.Logic.{⊎-elim}
+use mathlib.Core.Path.{_≡_, refl, sym}
+use Rattle.records.specs.First.{every, any}
+
+pub and-left : (a b : Bool) → (a && b) ≡ true → a ≡ true
+and-left true b e = refl
+and-left false b e = e
+
+pub and-right : (a b : Bool) → (a && b) ≡ true → b ≡ true
+and-right true b e = e
+and-right false b e = let z : _≡_ {A = ℕ} 0 1 = cc in absurd (omega arith)
+
+-- two tests that hold and fail together are one
+pub agree : (t u : Bool) → (t ≡ true → u ≡ true) → (t ≡ false → u ≡ false) → t ≡ u
+agree true u f g = sym (f refl)
+agree false u f g = sym (g refl)
+
+module _ (p : ℕ → Bool) where
+  pub every-none : every p 0 ≡ true
+  unfolding every
+  every-none = refl
+
+  pub every-more : (n : ℕ) → every p n ≡ true → p n ≡ true → every p (n + 1) ≡ true
+  unfolding every
+  every-more n e f = rw (add-one, e, f)
+
+  pub every-next : (n : ℕ) → every p (n + 1) ≡ (every p n && p n)
+  unfolding every
+  every-next n = rw add-one
+
+  pub every-fails : (n j : ℕ) → j < n → p j ≡ false → every p n ≡ false
+  unfolding every
+  every-fails zero j h e = absurd (not-suc-le-zero h)
+  every-fails (suc n) j h e =
+      ⊎-elim (λ (q : j ≡ n). rw (← q, e) (and-false (every p j))) (λ (l : j < n). rw (every-fails n j l e)) (eq-or-lt-of-le (le-of-suc-le-suc h))
+
+  pub every-at : (n j : ℕ) → every p n ≡ true → j < n → p j ≡ true
+  unfolding every
+  every-at zero j e h = absurd (not-suc-le-zero h)
+  every-at (suc n) j e h =
+      ⊎-elim (λ (q : j ≡ n). rw q (and-right (every p n) (p n) e)) (λ (l : j < n). every-at n j (and-left (every p n) (p n) e) l) (eq-or-lt-of-le (le-of-suc-le-suc h))
+
+  pub any-none : any p 0 ≡ false
+  unfolding any
+  any-none = refl
+
+  pub any-more : (n : ℕ) → any p n ≡ false → p n ≡ false → any p (n + 1) ≡ false
+  unfolding any
+  any-more n e f = rw (add-one, e, f)
+
+  pub any-holds : (n j : ℕ) → j < n → p j ≡ true → any p n ≡ true
+  unfolding any
+  any-holds zero j h e = absurd (not-suc-le-zero h)
+  any-holds (suc n) j h e =
+      ⊎-elim (λ (q : j ≡ n). rw (← q, e) (or-true (any p j))) (λ (l : j < n). rw (any-holds n j l e)) (eq-or-lt-of-le (le-of-suc-le-suc h))

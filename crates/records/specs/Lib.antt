@@ -1,0 +1,4 @@
+pub mod First
+pub mod Totals
+pub mod Records
+pub mod Valid

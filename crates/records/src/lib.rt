@@ -1,0 +1,96 @@
+// The records of a survey, shared by every layer, and what makes one good. Every field is a number, in the unit that document 01 gives it.
+
+pub mod first;
+pub mod numbers;
+pub mod ranges;
+
+// What stands for a force of 0 in N_D and N_K.
+pub const ZERO_FORCE: u64 = 20_000_000;
+
+// The B line.
+#[repr(C)]
+pub struct Header {
+    // knowledge level k, hundredths
+    pub knowledge: u64,
+    // H_T, mm
+    pub height: u64,
+    // n_s
+    pub storeys: u64,
+    // the two tilts, microradians
+    pub tilt1: u64,
+    pub tilt2: u64,
+    // how many S lines follow
+    pub count: u64,
+}
+
+// The S line.
+#[repr(C)]
+pub struct Storey {
+    pub number: u64,
+    // storey shear, 0.1 kN
+    pub shear: u64,
+    // how many M lines follow
+    pub count: u64,
+}
+
+// The M line: a column or a wall. Forces are in 0.1 kN, moments in 0.1 kNm, lengths in mm.
+#[repr(C)]
+pub struct Member {
+    pub number: u64,
+    pub long: u64,
+    pub short: u64,
+    // A_c, mm²
+    pub area: u64,
+    // f_cm, 0.1 MPa
+    pub fcm: u64,
+    // f_ctm, 0.01 MPa
+    pub fctm: u64,
+    // f_yw, 0.1 MPa
+    pub fyw: u64,
+    pub depth: u64,
+    // H_w, height of the wall
+    pub height: u64,
+    // s, hoop spacing
+    pub spacing: u64,
+    // b_k, core width
+    pub core: u64,
+    // A_sh, hoop area, mm²
+    pub hoops: u64,
+    // marks, 0 or 1
+    pub hooks: u64,
+    pub zone: u64,
+    pub strengthened: u64,
+    // reduction factor of annex I, hundredths
+    pub factor: u64,
+    // worst damage kind, 0 to 4
+    pub damage: u64,
+    // N_D, counted from -20,000,000
+    pub nd: u64,
+    pub case: LoadCase,
+}
+
+// What one load case brings to a member.
+#[repr(C)]
+pub struct LoadCase {
+    // N_K, counted from -20,000,000
+    pub nk: u64,
+    // M_e and M_p, moment demand and capacity
+    pub me: u64,
+    pub mp: u64,
+    // V_e and V_r, shear demand and capacity
+    pub ve: u64,
+    pub vr: u64,
+    // V, shear from modal analysis
+    pub shear: u64,
+    // microradians
+    pub rotation: u64,
+    // millionths
+    pub drift: u64,
+}
+
+// The tag of a line.
+pub enum Tag {
+    B,
+    S,
+    M,
+}
