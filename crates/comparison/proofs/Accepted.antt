@@ -7,7 +7,7 @@ use mathlib.Core.Path.{_≡_, refl, sym, ap, _∙_}
 use lib.Dec.{eqb}
 use lib.ListN.{length}
 use borrow.Author.Tests.{eqb-true, eq-eqb, leb-true}
-use Rattle.records.specs.First.{pick, every}
+use Rattle.records.specs.First.{pick, everyBelow}
 use Rattle.records.specs.Records.{inRange, storeyValues, storeyFault, memberFault, repeated}
 use Rattle.records.specs.declared.Header.{Header}
 use Rattle.records.specs.declared.Storey.{Storey}
@@ -63,7 +63,7 @@ module _ (rules : Rules) (h : Header) (ss : List Storey) (ms : List Member) (non
 storey-members : (s : Storey) → storeyFault s ≡ 0 → 1 ≤ s .count
 unfolding storeyFault
 storey-members s e =
-    let c = every-at (inRange S (storeyValues s)) 3 2 (clear (every (inRange S (storeyValues s)) 3) 0 3 e (omega arith) .0) (omega arith) in
+    let c = every-at (inRange S (storeyValues s)) 3 2 (clear (everyBelow (inRange S (storeyValues s)) 3) 0 3 e (omega arith) .0) (omega arith) in
     leb-true 1 (s .count) (and-left _ _ c)
 
 module _ (rules : Rules) (k : ℕ) (f : StoreyMembers) (sound : Sound rules k f) where

@@ -16,7 +16,7 @@ use Rattle.reading.specs.Answer.{Told, told, storeysTold, storeysAfter, members
 use Rattle.report.specs.declared.ReportAnswer.{ReportAnswer}
 use Rattle.columns.specs.Line.{atFront, putLength}
 use Rattle.report.specs.Sheet.{sheet, refusalLine, reportFault, reportAnswer, bufferAfter}
-use Rattle.records.specs.First.{every}
+use Rattle.records.specs.First.{everyBelow}
 use Rattle.records.specs.Records.{headerFault}
 use Rattle.records.specs.Totals.{total}
 use Rattle.storeys.specs.Building.{buildingFault, countsFault}
@@ -68,7 +68,7 @@ taken-length n xs h = simp length-take (omega (arith, h))
 
 -- the report call writes nothing of a blank header
 blank-refused : (room : ℕ) → eqb (reportFault blank [] [] room) 0 ≡ false
-unfolding reportFault buildingFault countsFault headerFault every total
+unfolding reportFault buildingFault countsFault headerFault everyBelow total
 blank-refused room = refl
 
 kept-of-blank : (out : List ℕ) → bufferAfter blank [] [] out ≡ out

@@ -11,7 +11,7 @@ use lib.ListN.{length, take, drop, getD, set, length-set}
 use lib.Seq.{getD-set-same, getD-set-other}
 use borrow.Author.Count.{below-more}
 use borrow.Author.Tests.{leb-true, leb-false, le-leb, lt-leb}
-use Rattle.records.specs.First.{pick, every, first}
+use Rattle.records.specs.First.{pick, everyBelow, first}
 use Rattle.records.specs.Records.{Allowed, allows, never, ranges, fields, inRange}
 use Rattle.format.specs.Spelling.{fieldOf}
 use Rattle.format.specs.Field.{fieldStep, numberOf, nextOf, optionOf, holdsFields, FieldsHeld, FieldsOf}
@@ -51,7 +51,7 @@ pub record Sofar (t : Tag) (s : List ℕ) (at n : ℕ) (values : List ℕ) (writ
   pub turn : j ≤ n
   pub size : length values ≡ 26
   pub place : c ≡ at + 1 + 8 * j
-  pub all-written : written ≡ every (writtenAt t s at) j
+  pub all-written : written ≡ everyBelow (writtenAt t s at) j
   pub held : (k : ℕ) → k < j → getD values k 0 ≡ valueAt t s at k
 
 module _ (t : Tag) (s : List ℕ) (at : ℕ) where
@@ -132,7 +132,7 @@ three-fields B = omega arith
 three-fields S = omega arith
 three-fields M = omega arith
 
-pub all-clear : (t : Tag) (s : List ℕ) (at : ℕ) (vs : List ℕ) → ((j : ℕ) → j < fields t → getD vs j 0 ≡ valueAt t s at j) → every (inRange t vs) (fields t) ≡ true → every (writtenAt t s at) (fields t) ≡ true → fieldsFault t s at ≡ 0
+pub all-clear : (t : Tag) (s : List ℕ) (at : ℕ) (vs : List ℕ) → ((j : ℕ) → j < fields t → getD vs j 0 ≡ valueAt t s at j) → everyBelow (inRange t vs) (fields t) ≡ true → everyBelow (writtenAt t s at) (fields t) ≡ true → fieldsFault t s at ≡ 0
 unfolding fieldFault
 all-clear t s at vs held r w =
     first-zero 0 (λ r. r) (fieldFault t s at) (fields t) refl

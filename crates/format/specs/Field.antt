@@ -5,7 +5,7 @@ use mathlib.Core.List.{List}
 use mathlib.Core.Path.{_≡_}
 use lib.Dec.{leb, ltb, eqb}
 use lib.ListN.{length, getD}
-use Rattle.records.specs.First.{pick, every}
+use Rattle.records.specs.First.{pick, everyBelow}
 use mathlib.Core.Option.{Option, some, none}
 use Rattle.format.specs.declared.cursor.Cursor.{Cursor}
 use Rattle.format.specs.declared.cursor.Field.{Field}
@@ -48,10 +48,10 @@ holdsFields tag s at = leb (at + 1 + 8 * fields tag) (length s)
 
 -- the numbers that a line's fields hold, and whether all are written as they must be
 pub record FieldsHeld (tag : Tag) (s : List ℕ) (at : ℕ) (r : Fields) : Type 0 where
-  pub written : r .written ≡ every (λ j. isWritten (fieldAt tag s at j)) (fields tag)
+  pub written : r .written ≡ everyBelow (λ j. isWritten (fieldAt tag s at j)) (fields tag)
   pub values : (j : ℕ) → j < fields tag → getD (r .values) j 0 ≡ valueAt tag s at j
 
 -- the same of any bytes: where they end before the line's fields, none is written and each is 0
 pub record FieldsOf (tag : Tag) (s : List ℕ) (at : ℕ) (r : Fields) : Type 0 where
-  pub written : r .written ≡ (holdsFields tag s at && every (λ j. isWritten (fieldAt tag s at j)) (fields tag))
+  pub written : r .written ≡ (holdsFields tag s at && everyBelow (λ j. isWritten (fieldAt tag s at j)) (fields tag))
   pub values : (j : ℕ) → j < fields tag → getD (r .values) j 0 ≡ pick (holdsFields tag s at) (valueAt tag s at j) 0

@@ -8,7 +8,7 @@ use mathlib.Core.Path.{_≡_, refl, ap, sym, _∙_}
 use lib.Dec.{leb, ltb, eqb}
 use lib.ListN.{length, drop, length-append}
 use borrow.Author.Tests.{leb-true, eq-eqb, ne-eqb}
-use Rattle.records.specs.First.{pick, every, any, inOrder, first}
+use Rattle.records.specs.First.{pick, everyBelow, anyBelow, inOrder, first}
 use Rattle.records.specs.Records.{Allowed, allows, fields, inRange, headerValues, storeyValues, memberValues, headerFault, storeyFault, memberFault, repeated}
 use Rattle.format.specs.Lines.{shaped, faultIn, fieldAt, fieldFault, fieldsFault, headerAt}
 use Rattle.reading.specs.Survey.{lineStart, lineNumber, membersBefore, storey, memberStart, member, shape, unheld, headerLineFault, storeyLineFault, memberLineFault, noFault, at-line, or-else, firstFault, membersFault, storeysFault, trailing, surveyFault, firstMembers, survey}
@@ -62,15 +62,15 @@ shape-most t s at = pick-most (shaped t (drop at s)) 0 1 8 (omega arith) (omega 
 header-most : (h : Header) → headerFault h ≤ 8
 unfolding headerFault
 header-most h =
-    pick-most (every (inRange B (headerValues h)) 6) _ 3 8 (pick-most (leb (h .height) 30_000 && leb (h .storeys) 10) 0 7 8 (omega arith) (omega arith)) (omega arith)
+    pick-most (everyBelow (inRange B (headerValues h)) 6) _ 3 8 (pick-most (leb (h .height) 30_000 && leb (h .storeys) 10) 0 7 8 (omega arith) (omega arith)) (omega arith)
 
 storey-most : (st : Storey) → storeyFault st ≤ 8
 unfolding storeyFault
-storey-most st = pick-most (every (inRange S (storeyValues st)) 3) 0 3 8 (omega arith) (omega arith)
+storey-most st = pick-most (everyBelow (inRange S (storeyValues st)) 3) 0 3 8 (omega arith) (omega arith)
 
 member-most : (m : Member) → memberFault m ≤ 8
 unfolding memberFault
-member-most m = pick-most (every (inRange M (memberValues m)) 26) _ 3 8 (pick-most (leb (m .short) (m .long)) 0 4 8 (omega arith) (omega arith)) (omega arith)
+member-most m = pick-most (everyBelow (inRange M (memberValues m)) 26) _ 3 8 (pick-most (leb (m .short) (m .long)) 0 4 8 (omega arith) (omega arith)) (omega arith)
 
 header-line-most : (s : List ℕ) → headerLineFault s ≤ 8
 unfolding headerLineFault
@@ -80,7 +80,7 @@ row-most : (k rows : ℕ) → unheld k rows ≤ 8
 row-most k rows = pick-most (ltb k rows) 0 8 8 (omega arith) (omega arith)
 
 repeated-most : (number : ℕ → ℕ) (k : ℕ) → repeated number k ≤ 8
-repeated-most number k = pick-most (any (λ e. eqb (number e) (number k)) k) 5 0 8 (omega arith) (omega arith)
+repeated-most number k = pick-most (anyBelow (λ e. eqb (number e) (number k)) k) 5 0 8 (omega arith) (omega arith)
 
 storey-line-most : (s : List ℕ) (rows i : ℕ) → storeyLineFault s rows i ≤ 8
 unfolding storeyLineFault
@@ -125,7 +125,7 @@ checked-number s n srows mrows r o ne =
 ten : (h : Header) → headerFault h ≡ 0 → h .count ≤ 10
 unfolding headerFault
 ten h e =
-    let o = clear (every (inRange B (headerValues h)) 6) _ 3 e (omega arith) in
+    let o = clear (everyBelow (inRange B (headerValues h)) 6) _ 3 e (omega arith) in
     let t = clear (leb (h .height) 30_000 && leb (h .storeys) 10) 0 7 (o .1) (omega arith) .0 in
     let a = leb-true (h .storeys) 10 (and-right (leb (h .height) 30_000) _ t) in
     let b = leb-true (h .count) (h .storeys) (and-right (leb 1 (h .count)) (leb (h .count) (h .storeys)) (every-at (inRange B (headerValues h)) 6 5 (o .0) (omega arith))) in

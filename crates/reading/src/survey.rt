@@ -3,7 +3,7 @@ ghost use mathlib.Core.Path.{_≡_};
 ghost use Prim.Native.Nat.{ℕ, _+_, _≤_};
 ghost use lib.Dec.{eqb};
 ghost use lib.ListN.{length, getD};
-ghost use Rattle.records.specs.First.{pick, any};
+ghost use Rattle.records.specs.First.{pick, anyBelow};
 ghost use Rattle.reading.specs.Checks.{HeaderLineOf, StoreyLineOf, MemberGood, MemberLineOf, MembersDue, CheckedOf};
 ghost use Rattle.reading.specs.Survey.{lineStart, membersFault, survey};
 ghost use Rattle.format.specs.Lines.{storeyAt, memberAt};
@@ -165,7 +165,7 @@ fn member_line(s: &[u8], at: usize, held: bool) -> MemberLine
 // 5 where one of the first n numbers is v.
 fn repeat_fault(numbers: &[u64; 200], n: usize, v: u64) -> u64
     requires { ⌜ n ≤ 200 ⌝ }
-    ensures { λ r. ⌜ r ≡ pick (any (λ (e : ℕ). eqb (getD (now (numbers .entry)) e 0) v) n) 5 0 ⌝ }
+    ensures { λ r. ⌜ r ≡ pick (anyBelow (λ (e : ℕ). eqb (getD (now (numbers .entry)) e 0) v) n) 5 0 ⌝ }
 {
     let mut e = 0;
     while e < n {

@@ -4,7 +4,7 @@ use mathlib.Core.Bool.{Bool, _&&_, _||_}
 use mathlib.Core.List.{List, [], _∷_}
 use lib.Dec.{leb, eqb}
 use lib.ListN.{getD}
-use Rattle.records.specs.First.{pick, every, any}
+use Rattle.records.specs.First.{pick, everyBelow, anyBelow}
 use Rattle.records.specs.declared.Header.{Header}
 use Rattle.records.specs.declared.Storey.{Storey}
 use Rattle.records.specs.declared.Member.{Member}
@@ -173,18 +173,18 @@ memberBy f =
 -- A header: 3, a field outside its range; 7, H_T > 30,000 or n_s > 10
 unfoldable pub headerFault : Header → ℕ
 headerFault h =
-    pick (every (inRange B (headerValues h)) 6)
+    pick (everyBelow (inRange B (headerValues h)) 6)
     (pick (leb (h .height) 30_000 && leb (h .storeys) 10) 0 7)
     3
 
 -- a storey: 3
 unfoldable pub storeyFault : Storey → ℕ
-storeyFault s = pick (every (inRange S (storeyValues s)) 3) 0 3
+storeyFault s = pick (everyBelow (inRange S (storeyValues s)) 3) 0 3
 
 -- a member: 3; 4, short side above long side
 unfoldable pub memberFault : Member → ℕ
-memberFault m = pick (every (inRange M (memberValues m)) 26) (pick (leb (m .short) (m .long)) 0 4) 3
+memberFault m = pick (everyBelow (inRange M (memberValues m)) 26) (pick (leb (m .short) (m .long)) 0 4) 3
 
 -- 5, a number repeated: that of record k is one of those before it
 abbrev pub repeated : (ℕ → ℕ) → ℕ → ℕ
-repeated number k = pick (any (λ e. eqb (number e) (number k)) k) 5 0
+repeated number k = pick (anyBelow (λ e. eqb (number e) (number k)) k) 5 0

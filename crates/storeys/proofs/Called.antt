@@ -7,7 +7,7 @@ use mathlib.Core.Path.{_≡_, refl, ap, sym, _∙_}
 use lib.Dec.{leb, eqb}
 use lib.ListN.{length, getD}
 use borrow.Author.Tests.{ne-eqb, eqb-true, leb-true}
-use Rattle.records.specs.First.{pick, every, inOrder}
+use Rattle.records.specs.First.{pick, everyBelow, inOrder}
 use Rattle.records.specs.Records.{storeyFault, storeyValues, inRange}
 use Rattle.records.specs.declared.Storey.{Storey}
 use Rattle.records.specs.declared.Member.{Member}
@@ -32,7 +32,7 @@ use Rattle.storeys.proofs.Loops.{row-valid, pick-most}
 pub shear-most : (s : Storey) → storeyFault s ≡ 0 → s .shear ≤ 9_999_999
 unfolding storeyFault
 shear-most s e =
-    let t = clear (every (inRange S (storeyValues s)) 3) 0 3 e (omega arith) .0 in
+    let t = clear (everyBelow (inRange S (storeyValues s)) 3) 0 3 e (omega arith) .0 in
     leb-true (s .shear) 9_999_999 (and-right (leb 1 (s .shear)) (leb (s .shear) 9_999_999) (every-at (inRange S (storeyValues s)) 3 1 t (omega arith)))
 
 -- a total of bounded terms

@@ -5,7 +5,7 @@ use mathlib.Core.List.{List, [], _∷_}
 use mathlib.Core.Path.{_≡_}
 use lib.Dec.{ltb, eqb}
 use lib.ListN.{length, getD, take, drop}
-use Rattle.records.specs.First.{pick, any, inOrder, first}
+use Rattle.records.specs.First.{pick, anyBelow, inOrder, first}
 use Rattle.records.specs.Records.{headerFault, storeyFault, repeated}
 use Rattle.records.specs.declared.Header.{Header}
 use Rattle.records.specs.declared.Storey.{Storey}
@@ -73,7 +73,7 @@ tilted h = ltb tiltAllowed (max (h .tilt1) (h .tilt2))
 
 -- some storey is Risky
 unfoldable pub someRisky : Rules → Header → List Storey → List Member → Bool
-someRisky rules h ss ms = any (riskyAt rules (h .knowledge) ss ms) (length ss)
+someRisky rules h ss ms = anyBelow (riskyAt rules (h .knowledge) ss ms) (length ss)
 
 -- "A building is Risky when a storey is, or the larger tilt exceeds 25,000"
 unfoldable pub buildingRisky : Rules → Header → List Storey → List Member → Bool

@@ -17,7 +17,7 @@ use Rattle.members.specs.declared.tables.LimitSet.{LimitSet}
 use Rattle.storeys.specs.declared.StoreyFinding.{StoreyFinding}
 use Rattle.storeys.specs.declared.StoreyAnswer.{StoreyAnswer}
 use Rattle.storeys.specs.declared.StoreyAnswer.the-variants.{Judged, Refused}
-use Rattle.records.specs.Totals.{total, some}
+use Rattle.records.specs.Totals.{total, anyOf}
 
 -- what a survey is judged by: the limits of the members, and the axial ratios per member between which the allowed share falls
 pub record Rules : Type 0 where
@@ -58,7 +58,7 @@ overShear rules k met ms = total (shearIfOver rules k met) ms
 
 -- "some member is over"
 unfoldable pub someOver : Rules → ℕ → Bool → List Member → Bool
-someOver rules k met ms = some (over rules k met) ms
+someOver rules k met ms = anyOf (over rules k met) ms
 
 -- "h being the numbers of members with each damage kind"
 unfoldable pub damaged : ℕ → List Member → ℕ
