@@ -15,7 +15,7 @@ use Rattle.records.specs.declared.Member.{Member}
 use Rattle.records.specs.declared.Tag.the-variants.{S}
 use Rattle.records.proofs.Below.{and-left, every-at}
 use Rattle.records.proofs.Validity.{clear}
-use Rattle.members.specs.Finding.{knowledge, answerBy}
+use Rattle.members.specs.Finding.{knowledge, answerBy, Returned}
 use Rattle.storeys.specs.declared.BuildingFinding.{BuildingFinding}
 use Rattle.storeys.specs.declared.BuildingAnswer.{BuildingAnswer}
 use Rattle.storeys.specs.declared.BuildingAnswer.the-variants.{Judged, Refused}
@@ -24,6 +24,7 @@ use Rattle.storeys.specs.Building.{storeyIn, membersOf, shearFaultAt, buildingF
 use Rattle.comparison.specs.Demand3.{Survey, knowledgeOf, StoreyMembers, storeyMembersAt, storeysMembers, Accepted, overIn, riskyIn, buildingRiskyIn}
 use Rattle.comparison.proofs.Pairs.{All, all-rows, all-listed}
 use Rattle.comparison.proofs.Tests.{never}
+use Rattle.storeys.proofs.Returned.{answer-same}
 use Rattle.storeys.proofs.Refusals.{None, end, also, one, rest, in-order-clear, in-order-none, first-clear}
 use Rattle.storeys.proofs.Accepted.{known-level, members-counted, total-counted, rows, checks}
 
@@ -102,11 +103,11 @@ module _ (rules : Rules) (a : Survey) (r : BuildingAnswer) (acc : Accepted rules
   pub building-clear : buildingFault rules (a .header) (a .storeys) (a .members) ≡ 0
   unfolding buildingAnswerBy
   building-clear =
-      let e = ap (λ x. returnedBuilding x .refusal) (acc .answers .same) in
+      let e = ap (λ (x : Returned). x .refusal) (acc .answers .same) in
       clear-by (eqb (buildingFault rules (a .header) (a .storeys) (a .members)) 0) _ _ refl (sym e ∙ acc .no-refusal)
 
   pub verdict-found : buildingRiskyIn r ≡ buildingRisky rules (a .header) (a .storeys) (a .members)
-  verdict-found = ap buildingRiskyIn (acc .answers .same) ∙ verdict-at rules (a .header) (a .storeys) (a .members) building-clear (placeIn r)
+  verdict-found = ap buildingRiskyIn (answer-same rules (a .header) (a .storeys) (a .members) r (acc .answers)) ∙ verdict-at rules (a .header) (a .storeys) (a .members) building-clear (placeIn r)
 
   pub level-known : knowledge (knowledgeOf a) ≡ true
   level-known = known-level rules (a .header) (a .storeys) (a .members) building-clear

@@ -2,7 +2,7 @@
 ghost use mathlib.Core.Path.{_≡_};
 ghost use Prim.Native.Nat.{_≤_};
 ghost use Rattle.records.specs.Valid.{Valid};
-ghost use Rattle.members.specs.Finding.{flag, compression, axial, moment, stress, hoops, ratios, mDropped, exceeds, findingBy, knowledge, memberAnswer};
+ghost use Rattle.members.specs.Finding.{flag, compression, axial, moment, stress, hoops, ratios, mDropped, exceeds, findingBy, knowledge, returned, memberReturned};
 ghost use Rattle.members.specs.Sizes.{SizedSet};
 use crate::class::Class;
 use crate::class::class_of;
@@ -158,7 +158,7 @@ pub fn known(k: u64) -> bool
 
 // The call on a member: k is its survey's knowledge level, met whether its storey meets the 0.40 condition.
 pub fn judge_member(k: u64, met: bool, m: Member) -> MemberAnswer
-    ensures { λ r. ⌜ r ≡ memberAnswer k met m ⌝ }
+    ensures { λ r. ⌜ returned r ≡ memberReturned k met m ⌝ }
 {
     if !known(k) {
         return MemberAnswer::Refused(3);

@@ -15,7 +15,7 @@ use Rattle.records.specs.First.{pick, anyBelow, first}
 use Rattle.records.specs.Records.{storeyFault}
 use Rattle.members.specs.Finding.{knowledge}
 use Rattle.records.specs.Totals.{total}
-use Rattle.storeys.specs.Storey.{publishedRules, wallShear, memberIn, memberRowsFault, storeyFinding, storeyAnswer}
+use Rattle.storeys.specs.Storey.{publishedRules, wallShear, memberIn, memberRowsFault, storeyFinding, returnedStorey, storeyReturned}
 use Rattle.storeys.specs.Tally.{tallyOf, Rows}
 use Rattle.storeys.specs.Building.{storeyIn, storeyRowsFault, Answers as Answered}
 use Rattle.storeys.specs.Verdict.{verdictOf, Counted, GoodRows}
@@ -57,7 +57,7 @@ found = record {
 abbrev pub judge-storey : Plain {n = 1} (pNum w64 ∷ taken storey ∷ pShrS (R member) 0 tt ∷ []) (made storeyjudgment)
 judge-storey = record {
   requires = λ κs a. [];
-  ensures = λ κs a z e. (z .answer ≡ storeyAnswer (a .0) (a .1 .0) (a .1 .1 .0 .now)) ∷ [];
+  ensures = λ κs a z e. (returnedStorey (z .answer) ≡ storeyReturned (a .0) (a .1 .0) (a .1 .1 .0 .now)) ∷ [];
 }
 
 abbrev pub counts-fit : Plain {n = 1} (pShrS (R storey) 0 tt ∷ pNum w64 ∷ []) rBool

@@ -103,11 +103,6 @@ abbrev pub PlaceInOk : Rules → Header → List Storey → List Member → Buil
 PlaceInOk rules h ss ms (Judged f) = PlaceOk rules h ss ms (f .place)
 PlaceInOk rules h ss ms (Refused n) = Unit
 
--- what the call on a building answers: all but the place is equated
-pub record Answers (rules : Rules) (h : Header) (ss : List Storey) (ms : List Member) (r : BuildingAnswer) : Type 0 where
-  pub same : r ≡ buildingAnswerBy rules h ss ms (placeIn r)
-  pub place : PlaceInOk rules h ss ms r
-
 -- the values of a printed building, and the place
 abbrev pub buildingFindingValues : BuildingFinding → List ℕ
 buildingFindingValues f = flag (f .tilted) ∷ flag (f .risky) ∷ f .place ∷ []
@@ -123,3 +118,8 @@ returnedBuilding (Refused n) = refused n
 -- what the paper returns, with the place that the answer names
 abbrev pub buildingReturned : Header → List Storey → List Member → ℕ → Returned
 buildingReturned h ss ms place = returnedBuilding (buildingAnswerBy publishedRules h ss ms place)
+
+-- what the call on a building answers: all but the place is equated
+pub record Answers (rules : Rules) (h : Header) (ss : List Storey) (ms : List Member) (r : BuildingAnswer) : Type 0 where
+  pub same : returnedBuilding r ≡ returnedBuilding (buildingAnswerBy rules h ss ms (placeIn r))
+  pub place : PlaceInOk rules h ss ms r

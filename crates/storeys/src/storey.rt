@@ -8,7 +8,7 @@ ghost use Rattle.records.specs.First.{pick, anyBelow};
 ghost use Rattle.records.specs.Records.{storeyFault};
 ghost use Rattle.members.specs.Finding.{knowledge};
 ghost use Rattle.records.specs.Totals.{total};
-ghost use Rattle.storeys.specs.Storey.{publishedRules, wallShear, memberIn, memberRowsFault, storeyFinding, storeyAnswer};
+ghost use Rattle.storeys.specs.Storey.{publishedRules, wallShear, memberIn, memberRowsFault, storeyFinding, returnedStorey, storeyReturned};
 ghost use Rattle.storeys.specs.Tally.{tallyOf, Rows};
 use crate::StoreyFinding;
 use crate::StoreyJudgment;
@@ -98,7 +98,7 @@ pub(crate) fn found(k: u64, s: Storey, rows: &[Member]) -> StoreyFinding
 
 // The call on a storey: k is its survey's knowledge level.
 pub fn judge_storey(k: u64, s: Storey, rows: &[Member]) -> StoreyJudgment
-    ensures { λ r. ⌜ r .answer ≡ storeyAnswer k s (now (rows .entry)) ⌝ }
+    ensures { λ r. ⌜ returnedStorey (r .answer) ≡ storeyReturned k s (now (rows .entry)) ⌝ }
 {
     let first = head_fault(k, s, rows.len());
     if first != 0 {
