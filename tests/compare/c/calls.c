@@ -25,10 +25,12 @@ static void print(const char *word, const uint64_t *numbers, size_t count)
     putchar('\n');
 }
 
+/* A row by the names of its fields, then by its words from the first on. */
 static void print_storey(const struct llunareth_storey *s)
 {
     const uint64_t numbers[] = {s->number, s->shear, s->count};
     print("S", numbers, LLUNARETH_STOREY_NUMBERS);
+    print("words", (const uint64_t *)s, sizeof *s / sizeof(uint64_t));
 }
 
 static void print_member(const struct llunareth_member *m)
@@ -40,6 +42,7 @@ static void print_member(const struct llunareth_member *m)
         c->nk, c->me, c->mp, c->ve, c->vr, c->shear, c->rotation, c->drift,
     };
     print("M", numbers, COUNT(numbers));
+    print("words", (const uint64_t *)m, sizeof *m / sizeof(uint64_t));
 }
 
 /* The three checks of a record, on all its numbers and on all but the last. */

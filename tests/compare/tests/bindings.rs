@@ -209,12 +209,17 @@ fn storey_lines(k: u64, s: &Storey, members: &[Member]) -> String {
     lines
 }
 
+/// A row by the names of its fields, and by its words from the first on: the numbers of its line in their order.
+fn row_lines(word: &str, numbers: &[u64]) -> String {
+    line(word, numbers) + &line("words", numbers)
+}
+
 /// What calls.c prints of an accepted survey. The place is any Risky storey's, so it is taken over from the proved call.
 fn survey_lines(survey: &Survey) -> String {
     let Survey { header, storeys, members } = survey;
     let mut lines = line("read", &[&[0, 0], &header_numbers(header)[..]].concat());
-    lines.extend(storeys.iter().map(|s| line("S", &storey_numbers(s))));
-    lines.extend(members.iter().map(|m| line("M", &member_numbers(m).expect("a good member"))));
+    lines.extend(storeys.iter().map(|s| row_lines("S", &storey_numbers(s))));
+    lines.extend(members.iter().map(|m| row_lines("M", &member_numbers(m).expect("a good member"))));
     lines += "faults 0 0 0 3 3 3\n";
     let mut rest = &members[..];
     for s in storeys {
