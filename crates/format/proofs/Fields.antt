@@ -14,7 +14,7 @@ use borrow.Author.Tests.{leb-true, leb-false, le-leb, lt-leb}
 use Rattle.records.specs.First.{pick, everyBelow, first}
 use Rattle.records.specs.Records.{Allowed, allows, never, ranges, fields, inRange}
 use Rattle.format.specs.Spelling.{fieldOf}
-use Rattle.format.specs.Field.{fieldStep, numberOf, nextOf, optionOf, holdsFields, FieldsHeld, FieldsOf}
+use Rattle.format.specs.Field.{fieldStep, numberOf, nextOf, optionOf, faultOf, holdsFields, FieldsHeld, FieldsOf}
 use Rattle.format.specs.Lines.{isForce, fieldAt, numberIn, isWritten, valueAt, faultIn, fieldFault, fieldsFault}
 use Rattle.format.specs.declared.cursor.Cursor.{Cursor}
 use Rattle.format.specs.declared.cursor.Field.{Field}
@@ -31,6 +31,10 @@ number-step none next = refl
 option-step : (o : Option ℕ) (next : ℕ) → optionOf (fieldStep o next) ≡ o
 option-step (some v) next = refl
 option-step none next = refl
+
+fault-step : (o : Option ℕ) (next : ℕ) (a : Allowed) → faultOf (fieldStep o next) a ≡ faultIn o a
+fault-step (some v) next a = refl
+fault-step none next a = refl
 
 next-step : (o : Option ℕ) (next : ℕ) → nextOf (fieldStep o next) .at ≡ next
 next-step (some v) next = refl
@@ -101,10 +105,10 @@ module _ (t : Tag) (s : List ℕ) (at : ℕ) where
   looks-first n e h =
       record { count = e; most = h; turn = omega arith; place = omega arith; clear = first-none 0 (λ r. r) (fieldFault t s at) }
 
-  module _ (n c j storeys x : ℕ) (so : Looked t s at n c j) (h : j < n) (f : Field) (e : f ≡ fieldStep (fieldOf (isForce t j) (take 8 (drop c s))) (c + 8)) (q : storeys ≡ valueAt t s at 2) (g : x ≡ faultIn (optionOf f) (getD (ranges t storeys) j never)) where
+  module _ (n c j storeys x : ℕ) (so : Looked t s at n c j) (h : j < n) (f : Field) (e : f ≡ fieldStep (fieldOf (isForce t j) (take 8 (drop c s))) (c + 8)) (q : storeys ≡ valueAt t s at 2) (g : x ≡ faultOf f (getD (ranges t storeys) j never)) where
     fault-is : x ≡ fieldFault t s at j
     unfolding fieldFault
-    fault-is = g ∙ rw (q, step-is t s at c j f (so .place) e, option-step (fieldAt t s at j) (c + 8))
+    fault-is = g ∙ rw (q, step-is t s at c j f (so .place) e) (fault-step (fieldAt t s at j) (c + 8) _)
 
     next-is : first 0 (λ r. r) (fieldFault t s at) (j + 1) ≡ x
     next-is = first-next 0 (λ r. r) (fieldFault t s at) j (so .clear) ∙ sym fault-is

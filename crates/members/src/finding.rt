@@ -132,7 +132,7 @@ fn judge(s: LimitSet, k: u64, met: bool, m: Member) -> Finding
     let at = ratios(m);
     let ratio = moment_ratio(k, c.me, c.mp);
     let m_limit = m_limit(s, class, m.zone, m.strengthened, at);
-    let rotation = Microradians(c.rotation);
+    let rotation = Microradians::steps(c.rotation, 1);
     let rotation_limit = rotation_limit(s, class, m.zone, m.strengthened, m.factor, at);
     let dropped = m_dropped(k, met, m);
     Finding {
