@@ -33,18 +33,7 @@ fn words_of(r: Reading) -> [u64; 10]
             storeys as u64,
             members as u64,
         ],
-        ReadAnswer::Refused { refusal, line } => [
-            reading::refusal::number(refusal),
-            line,
-            0,
-            0,
-            0,
-            0,
-            0,
-            0,
-            0,
-            0,
-        ],
+        ReadAnswer::Refused { refusal, line } => [refusal, line, 0, 0, 0, 0, 0, 0, 0, 0],
     }
 }
 
