@@ -21,8 +21,9 @@ use Rattle.storeys.proofs.Returned.{answer-same}
 use Rattle.storeys.proofs.Refusals.{None, one, rest, in-order-clear}
 use Rattle.report.specs.declared.ReportAnswer.{ReportAnswer}
 use Rattle.report.specs.declared.ReportAnswer.the-variants.{Written, Refused}
-use Rattle.columns.specs.Line.{stamped}
-use Rattle.report.specs.Sheet.{buildingLine, lineOf, storeyLines, storeysLines, sheet, sizeOf, Few, faultBy, lengthFault, reportFault, reportAnswer, bufferAfter, returnedReport, reportReturned}
+use Rattle.columns.specs.Bytes.{stamped}
+use Rattle.report.specs.Sheet.{buildingLine, storeyLines, storeysLines, sheet, lengthFault, reportFault, reportAnswer, bufferAfter, returnedReport, reportReturned}
+use Rattle.report.specs.Printing.{lineOf, sizeOf, Few, faultBy}
 use Rattle.columns.proofs.Stamps.{stamped-both, stamped-front}
 use Rattle.report.proofs.Rows.{length-building-line, length-storey-lines}
 use Rattle.report.proofs.Survey.{storeys-most, members-most, before-end, part-length}

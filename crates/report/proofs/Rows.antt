@@ -20,8 +20,9 @@ use Rattle.storeys.specs.declared.StoreyAnswer.{StoreyAnswer}
 use Rattle.storeys.specs.Storey.{publishedRules, meetsWallShare, overShear, storeyFinding, countFault, knowledgeFault, shearFault, noMember, memberIn, rowFault, memberRowsFault, storeyCallFault, storeyAnswerBy, storeyAnswer, returnedStorey, storeyReturned}
 use Rattle.storeys.proofs.Returned.{storey-answer-is}
 use Rattle.storeys.proofs.Refusals.{None, one, rest, in-order-clear, first-clear}
-use Rattle.columns.specs.Line.{stamped}
-use Rattle.report.specs.Sheet.{memberColumns, storeyColumns, buildingColumns, memberLine, storeyLine, buildingLine, memberLines, storeyLines, findingIn}
+use Rattle.columns.specs.Bytes.{stamped}
+use Rattle.report.specs.Sheet.{memberColumns, storeyColumns, buildingColumns, memberLine, storeyLine, buildingLine, memberLines, storeyLines}
+use Rattle.report.specs.Printing.{findingIn}
 use Rattle.columns.proofs.Stamps.{stamped-none, stamped-both, length-line}
 
 -- ---- lengths

@@ -19,7 +19,7 @@ use Rattle.storeys.specs.Building.{buildingFault}
 use Rattle.walk.proofs.Fn.{Plain}
 use Rattle.walk.proofs.Slice.{R, taken, made}
 use Rattle.records.proofs.Structs.{header, member, storey}
-use Rattle.columns.specs.Line.{stamped}
+use Rattle.columns.specs.Bytes.{stamped}
 use Rattle.report.specs.Sheet.{memberLines, storeyLines, storeysLines, returnedReport, reportReturned, bufferAfter}
 use Rattle.report.proofs.Structs.{reportjudgment}
 

@@ -22,7 +22,7 @@ use Rattle.storeys.specs.Building.{storeyIn, membersBefore, membersOf, countsFa
 use Rattle.storeys.proofs.Refusals.{None, end, also, one, rest, in-order-clear, in-order-none, first-clear, count-clear}
 use Rattle.storeys.proofs.Accepted.{before-next, members-counted, known-level}
 use Rattle.storeys.proofs.BuildingRows.{next-within, part-is}
-use Rattle.columns.specs.Line.{stamped}
+use Rattle.columns.specs.Bytes.{stamped}
 use Rattle.report.specs.Sheet.{storeyLines, storeysLines}
 use Rattle.columns.proofs.Stamps.{stamped-none, stamped-both}
 use Rattle.report.proofs.Rows.{length-storey-lines}

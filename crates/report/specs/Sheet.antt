@@ -1,13 +1,11 @@
 -- The printed sheet and the report call (document 01, "The printed sheet", "Refusals as returned"): any header with any rows of storeys and members, and a
 -- buffer of any length.
-use Prim.Native.Nat.{ℕ, zero, suc, _+_, _*_, _≤_}
-use mathlib.Core.Bool.{Bool, true, false}
+use Prim.Native.Nat.{ℕ, zero, suc, _+_}
+use mathlib.Core.Bool.{Bool}
 use mathlib.Core.List.{List, [], _∷_, _++_}
-use mathlib.Core.Path.{_≡_}
 use lib.Dec.{leb, eqb}
 use lib.ListN.{length, drop}
 use Rattle.records.specs.First.{pick, inOrder}
-use Rattle.records.specs.Records.{memberFault}
 use Rattle.records.specs.declared.Header.{Header}
 use Rattle.records.specs.declared.Storey.{Storey}
 use Rattle.records.specs.declared.Member.{Member}
@@ -104,35 +102,3 @@ reportReturned h ss ms room = returnedReport (reportAnswer h ss ms room)
 unfoldable pub bufferAfter : Header → List Storey → List Member → List ℕ → List ℕ
 bufferAfter h ss ms before =
     pick (eqb (reportFault h ss ms (length before)) 0) (sheet h ss ms ++ drop (length (sheet h ss ms)) before) before
-
--- a member that is printed: k one of the two levels, the record good
-pub record Printed (k : ℕ) (m : Member) : Type 0 where
-  pub knowledge-level : knowledge k ≡ true
-  pub good : memberFault m ≡ 0
-
--- the finding in an answer on a storey; a refusal has none
-abbrev pub noFinding : StoreyFinding
-noFinding = record { «axial_total» = 0; members = 0; «over_shear» = 0; shear = 0; risky = false; «walls_suffice» = false }
-
-abbrev pub findingIn : StoreyAnswer → StoreyFinding
-findingIn (storey-answer.Judged f) = f
-findingIn (storey-answer.Refused n) = noFinding
-
--- the `B` line of an answer on a building; a refusal has none
-abbrev pub lineOf : BuildingAnswer → List ℕ
-lineOf (building-answer.Judged f) = buildingLine (f .tilted) (f .risky)
-lineOf (building-answer.Refused n) = []
-
--- a sheet's length, by the rows that it prints
-abbrev pub sizeOf : ℕ → ℕ → ℕ
-sizeOf storeys members = 86 * members + 74 * storeys + 26
-
--- a judged building has few rows
-abbrev pub Few : BuildingAnswer → ℕ → ℕ → Type 0
-Few (building-answer.Judged f) storeys members = (storeys ≤ 10) × (members ≤ 2_000)
-Few (building-answer.Refused n) storeys members = Unit
-
--- an answer's refusal, then 9
-abbrev pub faultBy : BuildingAnswer → ℕ → ℕ → ℕ → ℕ
-faultBy (building-answer.Judged f) storeys members room = lengthFault (sizeOf storeys members) room
-faultBy (building-answer.Refused n) storeys members room = n

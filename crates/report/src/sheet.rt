@@ -6,7 +6,7 @@ ghost use lib.ListN.{length};
 ghost use Rattle.members.specs.Finding.{knowledge};
 ghost use Rattle.storeys.specs.Storey.{publishedRules, memberRowsFault, storeyCallFault};
 ghost use Rattle.storeys.specs.Building.{buildingFault};
-ghost use Rattle.columns.specs.Line.{stamped};
+ghost use Rattle.columns.specs.Bytes.{stamped};
 ghost use Rattle.report.specs.Sheet.{memberLines, storeyLines, storeysLines, returnedReport, reportReturned, bufferAfter};
 use crate::ReportJudgment;
 use crate::printed::finding_in;
