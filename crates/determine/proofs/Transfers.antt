@@ -89,4 +89,4 @@ within Failure done n room p l = omega (arith, ap reached p)
 -- what was read lies in a buffer of the same length
 pub input-within : (t : Transfer) (i : Input) (n room : ℕ) (buffer : List ℕ) → i ≡ inputOf t → i ≡ Read n → Over t room → length buffer ≡ room → n ≤ length buffer
 input-within t i n room buffer e r o l =
-    omega (arith, within (answered (t .last)) (t .done) n room (sym r ∙ e) (o .0), l)
+    omega (arith, within (answered (t .last)) (t .done) n room (sym r ∙ e) (omega (arith, o .0)), l)
