@@ -26,7 +26,7 @@ Moving Failure = ⊥
 abbrev pub Over : Transfer → ℕ → Type 0
 Over t room = (t .done ≤ room) × (Moving (answered (t .last)) → t .done ≡ room)
 
--- the input, of which so many bytes were read before the last answer: none after a failure
+-- the input, of which so many bytes were read, by the last answer: none of it after a failure
 abbrev pub inputAfter : Answer → ℕ → Input
 inputAfter (Bytes n) done = Read done
 inputAfter End done = Read done
@@ -35,7 +35,7 @@ inputAfter Failure done = Unread
 abbrev pub inputOf : Transfer → Input
 inputOf t = inputAfter (answered (t .last)) (t .done)
 
--- the output, by the last answer: whole unless a write moved nothing
+-- the output, by the last answer: written unless the last write moved nothing
 abbrev pub outputAfter : Answer → Output
 outputAfter (Bytes n) = Written
 outputAfter End = Unwritten
