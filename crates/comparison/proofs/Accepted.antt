@@ -19,7 +19,8 @@ use Rattle.members.specs.Finding.{knowledge, answerBy, Returned}
 use Rattle.storeys.specs.declared.BuildingFinding.{BuildingFinding}
 use Rattle.storeys.specs.declared.BuildingAnswer.{BuildingAnswer}
 use Rattle.storeys.specs.declared.BuildingAnswer.the-variants.{Judged, Refused}
-use Rattle.storeys.specs.Storey.{Rules, meetsWallShare, over, overShear, storeyRisky, storeyFinding, countFault, knowledgeFault, shearFault, noMember, memberIn, rowFault, memberRowsFault, storeyCallFault, storeyAnswerBy}
+use Rattle.storeys.specs.Storey.{Rules, meetsWallShare, over, overShear, storeyRisky, storeyFinding, countFault, knowledgeFault, shearFault, memberIn, rowFault, memberRowsFault, storeyCallFault, storeyAnswerBy}
+use Rattle.records.specs.Blank.{noMember}
 use Rattle.storeys.specs.Building.{storeyIn, membersOf, shearFaultAt, buildingFault, buildingRisky, buildingFinding, buildingAnswerBy, placeIn, returnedBuilding}
 use Rattle.comparison.specs.Demand3.{Survey, knowledgeOf, StoreyMembers, storeyMembersAt, storeysMembers, Accepted, overIn, riskyIn, buildingRiskyIn}
 use Rattle.comparison.proofs.Pairs.{All, all-rows, all-listed}

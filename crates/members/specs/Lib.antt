@@ -4,3 +4,4 @@ pub mod Tables
 pub mod Limits
 pub mod Sizes
 pub mod Finding
+pub mod Ordered

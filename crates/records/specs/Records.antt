@@ -48,33 +48,13 @@ storeyRanges = between 1 9_999_999 ∷ between 1 9_999_999 ∷ between 1 200 ∷
 -- 15 strengthened; 16 factor; 17 damage kind; 18 N_D, 19 N_K; 20 M_e, 21 M_p; 22 V_e, 23 V_r; 24 V; 25 rotation; 26 drift
 abbrev pub memberRanges : List Allowed
 memberRanges =
-    between 1 9_999_999
-    ∷ between 1 99_999
-    ∷ between 1 99_999
-    ∷ between 1 9_999_999
-    ∷ between 1 9_999
-    ∷ between 1 9_999
-    ∷ between 1 99_999
-    ∷ between 1 99_999
-    ∷ between 1 99_999
-    ∷ between 1 9_999
-    ∷ between 1 99_999
-    ∷ between 0 99_999
-    ∷ between 0 1
-    ∷ between 0 1
-    ∷ between 0 1
-    ∷ between 0 100
-    ∷ between 0 4
-    ∷ between (zeroForce - 999_999) (zeroForce + 9_999_999)
-    ∷ between (zeroForce - 999_999) (zeroForce + 9_999_999)
-    ∷ between 0 9_999_999
-    ∷ between 1 9_999_999
-    ∷ between 0 9_999_999
-    ∷ between 1 9_999_999
-    ∷ between 0 9_999_999
-    ∷ between 0 9_999_999
-    ∷ between 0 9_999_999
-    ∷ []
+    between 1 9_999_999 ∷ between 1 99_999 ∷ between 1 99_999 ∷ between 1 9_999_999
+    ∷ between 1 9_999 ∷ between 1 9_999 ∷ between 1 99_999
+    ∷ between 1 99_999 ∷ between 1 99_999 ∷ between 1 9_999 ∷ between 1 99_999 ∷ between 0 99_999
+    ∷ between 0 1 ∷ between 0 1 ∷ between 0 1 ∷ between 0 100 ∷ between 0 4
+    ∷ between (zeroForce - 999_999) (zeroForce + 9_999_999) ∷ between (zeroForce - 999_999) (zeroForce + 9_999_999)
+    ∷ between 0 9_999_999 ∷ between 1 9_999_999 ∷ between 0 9_999_999 ∷ between 1 9_999_999
+    ∷ between 0 9_999_999 ∷ between 0 9_999_999 ∷ between 0 9_999_999 ∷ []
 
 -- the ranges of a line's fields; a B line's last depends on its n_s
 abbrev pub ranges : Tag → ℕ → List Allowed
@@ -101,33 +81,9 @@ storeyValues s = s .number ∷ s .shear ∷ s .count ∷ []
 
 abbrev pub memberValues : Member → List ℕ
 memberValues m =
-    m .number
-    ∷ m .long
-    ∷ m .short
-    ∷ m .area
-    ∷ m .fcm
-    ∷ m .fctm
-    ∷ m .fyw
-    ∷ m .depth
-    ∷ m .height
-    ∷ m .spacing
-    ∷ m .core
-    ∷ m .hoops
-    ∷ m .hooks
-    ∷ m .zone
-    ∷ m .strengthened
-    ∷ m .factor
-    ∷ m .damage
-    ∷ m .nd
-    ∷ m .case .nk
-    ∷ m .case .me
-    ∷ m .case .mp
-    ∷ m .case .ve
-    ∷ m .case .vr
-    ∷ m .case .shear
-    ∷ m .case .rotation
-    ∷ m .case .drift
-    ∷ []
+    m .number ∷ m .long ∷ m .short ∷ m .area ∷ m .fcm ∷ m .fctm ∷ m .fyw ∷ m .depth ∷ m .height ∷ m .spacing ∷ m .core ∷ m .hoops
+    ∷ m .hooks ∷ m .zone ∷ m .strengthened ∷ m .factor ∷ m .damage ∷ m .nd
+    ∷ m .case .nk ∷ m .case .me ∷ m .case .mp ∷ m .case .ve ∷ m .case .vr ∷ m .case .shear ∷ m .case .rotation ∷ m .case .drift ∷ []
 
 -- the record of some numbers in the order of its line's fields
 abbrev pub headerBy : (ℕ → ℕ) → Header
@@ -157,16 +113,7 @@ memberBy f =
       factor = f 15;
       damage = f 16;
       nd = f 17;
-      case = record {
-        nk = f 18;
-        me = f 19;
-        mp = f 20;
-        ve = f 21;
-        vr = f 22;
-        shear = f 23;
-        rotation = f 24;
-        drift = f 25;
-      };
+      case = record { nk = f 18; me = f 19; mp = f 20; ve = f 21; vr = f 22; shear = f 23; rotation = f 24; drift = f 25 };
     }
 
 -- the first refusal of a record by itself, 0 where there is none.

@@ -17,7 +17,8 @@ use Rattle.members.specs.Finding.{finding, knowledge}
 use Rattle.members.specs.declared.finding.Finding.{Finding}
 use Rattle.storeys.specs.declared.StoreyFinding.{StoreyFinding}
 use Rattle.storeys.specs.declared.StoreyAnswer.{StoreyAnswer}
-use Rattle.storeys.specs.Storey.{publishedRules, meetsWallShare, overShear, storeyFinding, countFault, knowledgeFault, shearFault, noMember, memberIn, rowFault, memberRowsFault, storeyCallFault, storeyAnswerBy, storeyAnswer, returnedStorey, storeyReturned}
+use Rattle.storeys.specs.Storey.{publishedRules, meetsWallShare, overShear, storeyFinding, countFault, knowledgeFault, shearFault, memberIn, rowFault, memberRowsFault, storeyCallFault, storeyAnswerBy, storeyAnswer, returnedStorey, storeyReturned}
+use Rattle.records.specs.Blank.{noMember}
 use Rattle.storeys.proofs.Returned.{storey-answer-is}
 use Rattle.storeys.proofs.Refusals.{None, one, rest, in-order-clear, first-clear}
 use Rattle.columns.specs.Bytes.{stamped}

@@ -5,6 +5,7 @@ use mathlib.Core.List.{List, [], _∷_}
 use mathlib.Core.Path.{_≡_}
 use lib.Dec.{ltb, eqb}
 use lib.ListN.{length, getD, take, drop}
+use Rattle.records.specs.Blank.{noStorey}
 use Rattle.records.specs.First.{pick, anyBelow, inOrder, first}
 use Rattle.records.specs.Records.{headerFault, storeyFault, repeated}
 use Rattle.records.specs.declared.Header.{Header}
@@ -16,10 +17,6 @@ use Rattle.storeys.specs.declared.BuildingAnswer.{BuildingAnswer}
 use Rattle.storeys.specs.declared.BuildingAnswer.the-variants.{Judged, Refused}
 use Rattle.records.specs.Totals.{total}
 use Rattle.storeys.specs.Storey.{Rules, publishedRules, meetsWallShare, overShear, storeyRisky, countFault, shearFault, memberRowsFault}
-
--- what stands past the rows
-abbrev pub noStorey : Storey
-noStorey = record { number = 0; shear = 0; count = 0 }
 
 -- storey i, counted from 0
 abbrev pub storeyIn : List Storey → ℕ → Storey

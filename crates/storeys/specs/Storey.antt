@@ -4,13 +4,15 @@ use mathlib.Core.Bool.{Bool, _&&_, _||_}
 use mathlib.Core.List.{List, [], _∷_}
 use lib.Dec.{leb, ltb, eqb}
 use lib.ListN.{length, getD}
+use Rattle.records.specs.Blank.{noMember}
 use Rattle.records.specs.First.{pick, inOrder, first}
 use Rattle.records.specs.Records.{storeyFault, memberFault, repeated}
 use Rattle.records.specs.declared.Storey.{Storey}
 use Rattle.records.specs.declared.Member.{Member}
 use Rattle.members.specs.Units.{shareFrom, shareTo}
 use Rattle.members.specs.Class.{isWall}
-use Rattle.members.specs.Tables.{two, published, orderedSet}
+use Rattle.members.specs.Tables.{two, published}
+use Rattle.members.specs.Ordered.{orderedSet}
 use Rattle.members.specs.Finding.{axialRatioD, findingBy, knowledge, flag, Returned, refused}
 use Rattle.members.specs.declared.tables.Two.{Two}
 use Rattle.members.specs.declared.tables.LimitSet.{LimitSet}
@@ -107,31 +109,6 @@ knowledgeFault k = pick (knowledge k) 0 3
 -- 10, P above 9,999,999,999
 abbrev pub shearFault : ℕ → ℕ
 shearFault p = pick (leb p 9_999_999_999) 0 10
-
--- what stands past the rows
-unfoldable pub noMember : Member
-noMember =
-    record {
-      number = 0;
-      long = 0;
-      short = 0;
-      area = 0;
-      fcm = 0;
-      fctm = 0;
-      fyw = 0;
-      depth = 0;
-      height = 0;
-      spacing = 0;
-      core = 0;
-      hoops = 0;
-      hooks = 0;
-      zone = 0;
-      strengthened = 0;
-      factor = 0;
-      damage = 0;
-      nd = 0;
-      case = record { nk = 0; me = 0; mp = 0; ve = 0; vr = 0; shear = 0; rotation = 0; drift = 0 };
-    }
 
 -- row j of some members, counted from 0
 abbrev pub memberIn : List Member → ℕ → Member

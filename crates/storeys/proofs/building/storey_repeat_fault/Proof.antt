@@ -3,7 +3,8 @@ use lib.Dec.{eqb}
 use borrow.Author.Tests.{ltb-true, ltb-false}
 use mathlib.Core.Bool.{false}
 use Rattle.records.specs.First.{anyBelow}
-use Rattle.storeys.specs.Building.{noStorey, storeyIn}
+use Rattle.records.specs.Blank.{noStorey}
+use Rattle.storeys.specs.Building.{storeyIn}
 use Rattle.storeys.proofs.BuildingRows.{repeat-none, repeat-next, repeat-found, repeat-all}
 use Prim.Native.Nat.{ℕ, _+_, _-_, _≤_}
 use mathlib.Core.List.{[]}

@@ -5,7 +5,8 @@ use mathlib.Core.List.{[]}
 use mathlib.Core.Path.{_≡_, refl}
 use lib.Dec.{eqb}
 use borrow.Author.Tests.{ltb-true, ltb-false}
-use Rattle.storeys.specs.Storey.{noMember, memberIn}
+use Rattle.records.specs.Blank.{noMember}
+use Rattle.storeys.specs.Storey.{memberIn}
 use Rattle.records.specs.First.{anyBelow}
 use Rattle.storeys.proofs.Loops.{unseen, unseen-next, seen-here, unseen-all}
 use contract.Lifetimes.{Lfts, Shares}
