@@ -13,7 +13,8 @@ use Rattle.records.proofs.Validity.{valid}
 use Rattle.members.specs.Finding.{answerBy}
 use Rattle.members.proofs.Order.{published-ordered}
 use Rattle.storeys.specs.declared.BuildingAnswer.{BuildingAnswer}
-use Rattle.storeys.specs.Storey.{Rules, publishedRules, orderly, meetsWallShare, over, storeyRisky, storeyAnswerBy}
+use Rattle.storeys.specs.Storey.{Rules, publishedRules, meetsWallShare, over, storeyRisky, storeyAnswerBy}
+use Rattle.comparison.specs.Orderly.{orderly}
 use Rattle.storeys.specs.Building.{riskyAt, someRisky, buildingRisky, tiltAllowed, tilted}
 use Rattle.comparison.specs.Pairing.{EveryPair}
 use Rattle.comparison.specs.Demand3.{Survey, knowledgeOf, StoreyMembers, storeyMembersAt, storeysMembers, Accepted, overIn, riskyIn, Over, Risky, MemberPairs, StoreyPairs, AtLeastAsSevere, AtLeastAsSevereStorey, NowhereBetter, Carried, Demand3By, Demand3}

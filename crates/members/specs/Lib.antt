@@ -5,3 +5,4 @@ pub mod Limits
 pub mod Sizes
 pub mod Finding
 pub mod Ordered
+pub mod Assembly

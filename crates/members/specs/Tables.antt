@@ -14,13 +14,7 @@ two a b = record { r1 = a; r2 = b }
 
 -- where the rows stand: n of columns, ρ of column B, n and v of walls
 unfoldable pub places : Places
-places =
-    record {
-      axial = four 1_000 6_000 7_000 10_000;
-      hoops = two 500 6_000;
-      walls = two 1_000 2_500;
-      stress = two 9_000 13_000;
-    }
+places = record { axial = four 1_000 6_000 7_000 10_000; hoops = two 500 6_000; walls = two 1_000 2_500; stress = two 9_000 13_000 }
 
 -- the limits of m: columns A, B (1 and 2 for the first and the second ρ) and C at the n above; wall A with boundary zone and without at the two v (1 and 2 for
 -- the first and the second n of walls); wall B at the two v

@@ -2,7 +2,8 @@
 ghost use mathlib.Core.Path.{_≡_};
 ghost use Prim.Native.Nat.{_≤_};
 ghost use Rattle.records.specs.Valid.{Valid};
-ghost use Rattle.members.specs.Finding.{flag, compression, axial, moment, stress, hoops, ratios, mDropped, exceeds, findingBy, knowledge, returned, memberReturned};
+ghost use Rattle.members.specs.Finding.{flag, compression, axial, moment, stress, hoops, mDropped, exceeds, findingBy, knowledge, returned, memberReturned};
+ghost use Rattle.members.specs.Assembly.{ratios};
 ghost use Rattle.members.specs.Sizes.{SizedSet};
 use crate::class::Class;
 use crate::class::class_of;

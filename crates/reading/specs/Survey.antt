@@ -78,19 +78,14 @@ firstFault = first noFault (λ f. f .number)
 
 -- "The earliest line wins": the first refusal of storey i's M lines, of its S line and these, and of the file
 unfoldable pub membersFault : List ℕ → ℕ → ℕ → Fault
-membersFault s rows i =
-    firstFault (λ j. at-line (lineNumber (i + 1) (membersBefore s i + j)) (memberLineFault s rows i j)) (storey s i .count)
+membersFault s rows i = firstFault (λ j. at-line (lineNumber (i + 1) (membersBefore s i + j)) (memberLineFault s rows i j)) (storey s i .count)
 
 unfoldable pub storeysFault : List ℕ → ℕ → ℕ → ℕ → Fault
-storeysFault s srows mrows i =
-    or-else (at-line (lineNumber i (membersBefore s i)) (storeyLineFault s srows i)) (membersFault s mrows i)
+storeysFault s srows mrows i = or-else (at-line (lineNumber i (membersBefore s i)) (storeyLineFault s srows i)) (membersFault s mrows i)
 
 -- 6, bytes after the last line, at the line they begin
 abbrev pub trailing : List ℕ → ℕ → Fault
-trailing s n =
-    pick (ltb (lineStart n (membersBefore s n)) (length s))
-    (record { number = 6; line = lineNumber n (membersBefore s n) })
-    noFault
+trailing s n = pick (ltb (lineStart n (membersBefore s n)) (length s)) (record { number = 6; line = lineNumber n (membersBefore s n) }) noFault
 
 unfoldable pub surveyFault : List ℕ → ℕ → ℕ → Fault
 surveyFault s srows mrows =

@@ -31,14 +31,7 @@ zeroForce = 20_000_000
 
 -- "B": k, H_T, n_s, two tilts, number of S lines, which is at most n_s
 abbrev pub headerRanges : ℕ → List Allowed
-headerRanges ns =
-    either 90 100
-    ∷ between 1 99_999
-    ∷ between 1 99
-    ∷ between 0 9_999_999
-    ∷ between 0 9_999_999
-    ∷ between 1 ns
-    ∷ []
+headerRanges ns = either 90 100 ∷ between 1 99_999 ∷ between 1 99 ∷ between 0 9_999_999 ∷ between 0 9_999_999 ∷ between 1 ns ∷ []
 
 -- "S": storey number, storey shear, number of M lines
 abbrev pub storeyRanges : List Allowed
@@ -48,8 +41,7 @@ storeyRanges = between 1 9_999_999 ∷ between 1 9_999_999 ∷ between 1 200 ∷
 -- 15 strengthened; 16 factor; 17 damage kind; 18 N_D, 19 N_K; 20 M_e, 21 M_p; 22 V_e, 23 V_r; 24 V; 25 rotation; 26 drift
 abbrev pub memberRanges : List Allowed
 memberRanges =
-    between 1 9_999_999 ∷ between 1 99_999 ∷ between 1 99_999 ∷ between 1 9_999_999
-    ∷ between 1 9_999 ∷ between 1 9_999 ∷ between 1 99_999
+    between 1 9_999_999 ∷ between 1 99_999 ∷ between 1 99_999 ∷ between 1 9_999_999 ∷ between 1 9_999 ∷ between 1 9_999 ∷ between 1 99_999
     ∷ between 1 99_999 ∷ between 1 99_999 ∷ between 1 9_999 ∷ between 1 99_999 ∷ between 0 99_999
     ∷ between 0 1 ∷ between 0 1 ∷ between 0 1 ∷ between 0 100 ∷ between 0 4
     ∷ between (zeroForce - 999_999) (zeroForce + 9_999_999) ∷ between (zeroForce - 999_999) (zeroForce + 9_999_999)
@@ -119,10 +111,7 @@ memberBy f =
 -- the first refusal of a record by itself, 0 where there is none.
 -- A header: 3, a field outside its range; 7, H_T > 30,000 or n_s > 10
 unfoldable pub headerFault : Header → ℕ
-headerFault h =
-    pick (everyBelow (inRange B (headerValues h)) 6)
-    (pick (leb (h .height) 30_000 && leb (h .storeys) 10) 0 7)
-    3
+headerFault h = pick (everyBelow (inRange B (headerValues h)) 6) (pick (leb (h .height) 30_000 && leb (h .storeys) 10) 0 7) 3
 
 -- a storey: 3
 unfoldable pub storeyFault : Storey → ℕ

@@ -37,29 +37,21 @@ riskyAt rules k ss ms i = storeyRisky rules k (storeyIn ss i .shear) (membersOf 
 
 -- 1: "a count or total of counts that isn't the rows given"
 unfoldable pub countsFault : Header → List Storey → List Member → ℕ
-countsFault h ss ms =
-    inOrder (countFault (h .count) (length ss) ∷ countFault (total (λ s. s .count) ss) (length ms) ∷ [])
+countsFault h ss ms = inOrder (countFault (h .count) (length ss) ∷ countFault (total (λ s. s .count) ss) (length ms) ∷ [])
 
 -- storey i: its 3, its 5 (its number is one of those before it), then its members' 3, 4 and 5
 unfoldable pub storeyRowsFault : List Storey → List Member → ℕ → ℕ
-storeyRowsFault ss ms i =
-    inOrder (storeyFault (storeyIn ss i) ∷ repeated (λ e. storeyIn ss e .number) i ∷ memberRowsFault (membersOf ss ms i) ∷ [])
+storeyRowsFault ss ms i = inOrder (storeyFault (storeyIn ss i) ∷ repeated (λ e. storeyIn ss e .number) i ∷ memberRowsFault (membersOf ss ms i) ∷ [])
 
 -- storey i: 10
 unfoldable pub shearFaultAt : Rules → ℕ → List Storey → List Member → ℕ → ℕ
-shearFaultAt rules k ss ms i =
-    let part = membersOf ss ms i in
-    shearFault (overShear rules k (meetsWallShare (storeyIn ss i .shear) part) part)
+shearFaultAt rules k ss ms i = let part = membersOf ss ms i in shearFault (overShear rules k (meetsWallShare (storeyIn ss i .shear) part) part)
 
 -- the first refusal of the call on a building: "1 over all, then records in survey order: 3, 4, 5, 7; then 10"
 unfoldable pub buildingFault : Rules → Header → List Storey → List Member → ℕ
 buildingFault rules h ss ms =
-    inOrder
-    (countsFault h ss ms
-    ∷ headerFault h
-    ∷ first 0 (λ n. n) (storeyRowsFault ss ms) (length ss)
-    ∷ first 0 (λ n. n) (shearFaultAt rules (h .knowledge) ss ms) (length ss)
-    ∷ [])
+    inOrder (countsFault h ss ms ∷ headerFault h ∷ first 0 (λ n. n) (storeyRowsFault ss ms) (length ss)
+    ∷ first 0 (λ n. n) (shearFaultAt rules (h .knowledge) ss ms) (length ss) ∷ [])
 
 -- "the larger tilt exceeds 25,000"
 abbrev pub tiltAllowed : ℕ
@@ -82,9 +74,7 @@ buildingFinding rules h ss ms place = record { tilted = tilted h; risky = buildi
 
 unfoldable pub buildingAnswerBy : Rules → Header → List Storey → List Member → ℕ → BuildingAnswer
 buildingAnswerBy rules h ss ms place =
-    pick (eqb (buildingFault rules h ss ms) 0)
-    (Judged (buildingFinding rules h ss ms place))
-    (Refused (buildingFault rules h ss ms))
+    pick (eqb (buildingFault rules h ss ms) 0) (Judged (buildingFinding rules h ss ms place)) (Refused (buildingFault rules h ss ms))
 
 -- "names a Risky storey's place, counted from 1. Which one is free where several are; 0 where none is"
 pub data PlaceOk (rules : Rules) (h : Header) (ss : List Storey) (ms : List Member) : ℕ → Type 0 where

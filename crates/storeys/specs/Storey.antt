@@ -12,7 +12,6 @@ use Rattle.records.specs.declared.Member.{Member}
 use Rattle.members.specs.Units.{shareFrom, shareTo}
 use Rattle.members.specs.Class.{isWall}
 use Rattle.members.specs.Tables.{two, published}
-use Rattle.members.specs.Ordered.{orderedSet}
 use Rattle.members.specs.Finding.{axialRatioD, findingBy, knowledge, flag, Returned, refused}
 use Rattle.members.specs.declared.tables.Two.{Two}
 use Rattle.members.specs.declared.tables.LimitSet.{LimitSet}
@@ -29,10 +28,6 @@ pub record Rules : Type 0 where
 -- the rules that document 01 publishes
 abbrev pub publishedRules : Rules
 publishedRules = record { limits = published; ends = two shareFrom shareTo }
-
--- rules that keep the order of the load: limits in order, and share ends that rise
-abbrev pub orderly : Rules → Bool
-orderly rules = orderedSet (rules .limits) && ltb (rules .ends .r1) (rules .ends .r2)
 
 -- the V of a wall, and of a column nothing
 abbrev pub wallShear : Member → ℕ
@@ -70,10 +65,7 @@ damaged kind ms = total (λ m. flag (eqb (m .damage) kind)) ms
 -- where 110,000 is 20 × (6,500 − 1,000)
 unfoldable pub exceedsShare : Two → ℕ → ℕ → ℕ → ℕ → Bool
 exceedsShare ends σ c p w =
-    pick (leb σ (ends .r1 * c))
-    (ltb (7 * w) (20 * p))
-    (pick (leb (ends .r2 * c) σ)
-    (ltb 0 p)
+    pick (leb σ (ends .r1 * c)) (ltb (7 * w) (20 * p)) (pick (leb (ends .r2 * c) σ) (ltb 0 p)
     (ltb (7 * w * (ends .r2 * c - σ)) (20 * (ends .r2 - ends .r1) * c * p)))
 
 -- "20 × h1 + 28 × h2 + 35 × h3 + 140 × h4 ≥ 7 × c"
@@ -125,19 +117,12 @@ memberRowsFault ms = first 0 (λ n. n) (rowFault ms) (length ms)
 -- the first refusal of the call on a storey: 1, k's 3, the storey's 3, its members' 3, 4 and 5, and 10
 unfoldable pub storeyCallFault : Rules → ℕ → Storey → List Member → ℕ
 storeyCallFault rules k s ms =
-    inOrder
-    (countFault (s .count) (length ms)
-    ∷ knowledgeFault k
-    ∷ storeyFault s
-    ∷ memberRowsFault ms
-    ∷ shearFault (overShear rules k (meetsWallShare (s .shear) ms) ms)
-    ∷ [])
+    inOrder (countFault (s .count) (length ms) ∷ knowledgeFault k ∷ storeyFault s ∷ memberRowsFault ms
+    ∷ shearFault (overShear rules k (meetsWallShare (s .shear) ms) ms) ∷ [])
 
 unfoldable pub storeyAnswerBy : Rules → ℕ → Storey → List Member → StoreyAnswer
 storeyAnswerBy rules k s ms =
-    pick (eqb (storeyCallFault rules k s ms) 0)
-    (Judged (storeyFinding rules k (s .shear) ms))
-    (Refused (storeyCallFault rules k s ms))
+    pick (eqb (storeyCallFault rules k s ms) 0) (Judged (storeyFinding rules k (s .shear) ms)) (Refused (storeyCallFault rules k s ms))
 
 -- the answer on a storey, by the published rules
 abbrev pub storeyAnswer : ℕ → Storey → List Member → StoreyAnswer
