@@ -69,7 +69,8 @@ static int determine(size_t length)
         return print_refusal(TOO_LONG, 0);
     }
     uint64_t read[LLUNARETH_READ_VALUES] = {0};
-    uint64_t returned = llunareth_read(file, length, storeys, LLUNARETH_STOREY_ROWS, members, LLUNARETH_MEMBER_ROWS, read, LLUNARETH_READ_VALUES);
+    uint64_t returned =
+        llunareth_read(file, length, storeys, LLUNARETH_STOREY_ROWS, members, LLUNARETH_MEMBER_ROWS, read, LLUNARETH_READ_VALUES);
     if (returned != 0) {
         return print_refusal(LLUNARETH_REFUSAL(returned), LLUNARETH_LINE(returned));
     }

@@ -1,7 +1,7 @@
 //! The header for C and C++ and the program `verdict`, over the proved library, against the independent program.
 use compare::{
-    header_numbers, judge_building, member_numbers, member_rows, plain_column, refusal_told, same_building, same_member, samples, storey_numbers,
-    worked_example,
+    header_numbers, judge_building, member_numbers, member_rows, plain_column, refusal_told, same_building, same_member, samples,
+    storey_numbers, worked_example,
 };
 use generator::{any_file, valid_survey, write_survey, Rng};
 use independent::{Member, Storey, Survey};
@@ -198,8 +198,9 @@ fn verdict_on_what_cannot_be_read_or_written() {
 #[test]
 fn verdict_with_another_version_of_the_library() {
     let other = own("other_version.c");
-    fs::write(&other, "unsigned long __wrap_llunareth_version(void);\nunsigned long __wrap_llunareth_version(void) { return 3; }\n").expect("written");
-    let program = build(compiler("gcc", "-std=c99").arg(other).arg("-Wl,--wrap=llunareth_version"), "bindings/c/verdict.c", "verdict_other");
+    fs::write(&other, "unsigned long __wrap_llunareth_version(void) { return 3; }\n").expect("written");
+    let mut compiler = compiler("gcc", "-std=c99");
+    let program = build(compiler.arg(other).arg("-Wl,--wrap=llunareth_version"), "bindings/c/verdict.c", "verdict_other");
     let output = Command::new(program).arg(samples::folder().join("walls.survey")).output().expect("verdict starts");
     assert_eq!(said(&output), "verdict: the library has another form of the calls\n");
     assert_eq!(outcome(output), (String::new(), Some(2)));
@@ -269,7 +270,8 @@ fn survey_lines(survey: &Survey) -> String {
 /// The constants of the header are those of the Rust package.
 fn constants_lines() -> String {
     let scales = [llunareth::RATIO_SCALE, llunareth::ROTATION_SCALE, llunareth::FORCE_SCALE, llunareth::ZERO_FORCE];
-    let values = [raw::READ_VALUES, raw::MEMBER_VALUES, raw::STOREY_VALUES, raw::BUILDING_VALUES, raw::REPORT_VALUES].map(|n| n as u64);
+    let values = [raw::READ_VALUES, raw::MEMBER_VALUES, raw::STOREY_VALUES, raw::BUILDING_VALUES, raw::REPORT_VALUES];
+    let values = values.map(|n| n as u64);
     line("version", &[raw::VERSION; 2]) + &line("scales", &scales) + &line("values", &[&[raw::SHORT], &values[..]].concat())
 }
 

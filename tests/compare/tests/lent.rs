@@ -1,8 +1,8 @@
 //! What each call leaves of the memory that it was lent: all of it where it is refused or `out` is too short, all but the front where it is
 //! accepted. `llunareth_determine`, which has no refusal, is looked at in determine.rs.
 use compare::{
-    assert_left, assert_out_left, header_numbers, marked_rows, marks, member_numbers, member_rows, pattern, storey_numbers, storey_rows, worked_example,
-    MemberRow, StoreyRow, WORKED_SHEET,
+    assert_left, assert_out_left, header_numbers, marked_rows, marks, member_numbers, member_rows, pattern, storey_numbers, storey_rows,
+    worked_example, MemberRow, StoreyRow, WORKED_SHEET,
 };
 use generator::{file_of, survey_lines, Line};
 use independent::Survey;
