@@ -124,8 +124,28 @@ static void report(const uint64_t *header, size_t storey_rows, size_t member_row
     fwrite(text, 1, (size_t)out[LLUNARETH_REPORT_LENGTH], stdout);
 }
 
+/* What each call returns where `out` is one too short. */
+static void call_short(size_t length, const uint64_t *header, size_t storey_rows, size_t member_rows)
+{
+    uint64_t out[LLUNARETH_READ_VALUES] = {0};
+    const uint64_t k = header[0];
+    const uint64_t *storey = (const uint64_t *)&storeys[0];
+    const uint64_t *member = (const uint64_t *)&members[0];
+    const uint64_t returned[] = {
+        llunareth_read(file, length, storeys, storey_rows, members, member_rows, out, LLUNARETH_READ_VALUES - 1),
+        llunareth_judge_member(k, false, member, LLUNARETH_MEMBER_NUMBERS, out, LLUNARETH_MEMBER_VALUES - 1),
+        llunareth_judge_storey(k, storey, LLUNARETH_STOREY_NUMBERS, members, member_rows, out, LLUNARETH_STOREY_VALUES - 1),
+        llunareth_judge_building(header, LLUNARETH_HEADER_NUMBERS, storeys, storey_rows, members, member_rows, out,
+                                 LLUNARETH_BUILDING_VALUES - 1),
+        llunareth_report(header, LLUNARETH_HEADER_NUMBERS, storeys, storey_rows, members, member_rows, text, sizeof text, out,
+                         LLUNARETH_REPORT_VALUES - 1),
+        out[0],
+    };
+    print("short", returned, COUNT(returned));
+}
+
 /* The records that were read, then each call on them. */
-static void call_all(const uint64_t *read)
+static void call_all(size_t length, const uint64_t *read)
 {
     const uint64_t *header = read + LLUNARETH_READ_HEADER;
     const size_t storey_rows = (size_t)read[LLUNARETH_READ_STOREY_ROWS];
@@ -143,6 +163,7 @@ static void call_all(const uint64_t *read)
         own += storeys[i].count;
     }
     judge_building(header, storey_rows, member_rows);
+    call_short(length, header, storey_rows, member_rows);
     report(header, storey_rows, member_rows);
 }
 
@@ -161,7 +182,7 @@ int main(void)
     print("sizes", sizes, COUNT(sizes));
     print("read", told, COUNT(told));
     if (returned == 0) {
-        call_all(read);
+        call_all(length, read);
     }
     const uint64_t put = llunareth_determine(file, length, text, sizeof text);
     print("determine", &put, 1);

@@ -263,6 +263,7 @@ fn survey_lines(survey: &Survey) -> String {
     let found = independent::judge_building(header, storeys, members).expect("accepted");
     let place = judge_building(header, storeys, &member_rows(members).expect("good members")).expect("accepted").place;
     lines += &line("building", &[0, found.tilt_above.into(), found.risky.into(), place]);
+    lines += "short 255 255 255 255 255 0\n";
     let sheet = independent::report(header, storeys, members, usize::MAX).expect("accepted");
     lines + &line("report", &[0, sheet.len() as u64]) + std::str::from_utf8(&sheet).expect("text")
 }
