@@ -115,8 +115,9 @@ LLUNARETH_ASSERT(sizeof(struct llunareth_member) == 8 * LLUNARETH_MEMBER_NUMBERS
 enum { LLUNARETH_SHORT = 255 };
 
 /* The refusal in what a call returned, 0 for none, and its line, 0 where none is named. */
-#define LLUNARETH_REFUSAL(returned) ((returned) % 256)
-#define LLUNARETH_LINE(returned) ((returned) / 256)
+enum { LLUNARETH_LINE_UNIT = 256 };
+#define LLUNARETH_REFUSAL(returned) ((returned) % LLUNARETH_LINE_UNIT)
+#define LLUNARETH_LINE(returned) ((returned) / LLUNARETH_LINE_UNIT)
 
 /* Places of the values of llunareth_read: the six fields of B, which begin at LLUNARETH_READ_HEADER, and the rows filled. */
 enum {
