@@ -8,9 +8,9 @@
  * A record handed in as numbers has them in the order of its line. A number that is not given is refused; numbers past the last field are
  * not looked at. A row is handed in as numbers by (const uint64_t *)&row.
  *
- * The calls that put out ten numbers return the refusal, 0 for none. The ten are the refusal, the line (0 except when reading), then the
- * values; a refusal has zeros for them. A buffer that does not hold ten numbers is left as it was, and one that holds more is left as it
- * was after the tenth.
+ * A call with a buffer `out` returns refusal and line in one number, refusal + 256 * line: 0 where it is accepted, the line 0 except when
+ * reading. Accepted, it puts its values, and only these, to the front of `out`. Refused, it leaves everything that was lent as it was.
+ * Where `out` is too short for its values, it returns LLUNARETH_SHORT before anything else, and leaves everything as it was too.
  */
 #ifndef LLUNARETH_H
 #define LLUNARETH_H
@@ -23,9 +23,14 @@
 extern "C" {
 #endif
 
-/* How many numbers are put out, and how many a record has. */
+/*
+ * The form of the calls as this header has it. A program holds it against llunareth_version() once, before any other call: each change of a
+ * call raises it.
+ */
+#define LLUNARETH_VERSION 2
+
+/* How many numbers a record has. */
 enum {
-    LLUNARETH_NUMBERS = 10,
     LLUNARETH_HEADER_NUMBERS = 6,
     LLUNARETH_STOREY_NUMBERS = 3,
     LLUNARETH_MEMBER_NUMBERS = 26
@@ -33,6 +38,13 @@ enum {
 
 /* N_D and N_K are counted from -20,000,000: this number stands for 0. A force handed in as it is, is refused by 3. */
 enum { LLUNARETH_ZERO_FORCE = 20000000 };
+
+/* A number divided by its scale is the figure in the unit named. */
+enum {
+    LLUNARETH_RATIO_SCALE = 10000,      /* 1: m and its limit, n_D, the total of n_D */
+    LLUNARETH_ROTATION_SCALE = 1000000, /* rad: rotations and their limits, tilts */
+    LLUNARETH_FORCE_SCALE = 10          /* kN: forces (N_D and N_K after LLUNARETH_ZERO_FORCE is taken away); kNm: moments */
+};
 
 /* What llunareth_determine takes and lends: the longest file and the rows it is read into, and the longest sheet. */
 enum {
@@ -99,52 +111,67 @@ LLUNARETH_ASSERT(sizeof(struct llunareth_member) == 8 * LLUNARETH_MEMBER_NUMBERS
 #undef LLUNARETH_ASSERT
 #endif
 
-/* Places among the ten numbers of every call. */
-enum { LLUNARETH_REFUSAL = 0, LLUNARETH_LINE = 1 };
+/* Returned where `out` is too short for a call's values; no refusal has this number. */
+enum { LLUNARETH_SHORT = 255 };
 
-/* Places in the answer of llunareth_read: the six fields of B, which begin at LLUNARETH_READ_HEADER, and the rows filled. */
+/* The refusal in what a call returned, 0 for none, and its line, 0 where none is named. */
+enum { LLUNARETH_LINE_UNIT = 256 };
+#define LLUNARETH_REFUSAL(returned) ((returned) % LLUNARETH_LINE_UNIT)
+#define LLUNARETH_LINE(returned) ((returned) / LLUNARETH_LINE_UNIT)
+
+/* Places of the values of llunareth_read: the six fields of B, which begin at LLUNARETH_READ_HEADER, and the rows filled. */
 enum {
-    LLUNARETH_READ_HEADER = 2,
-    LLUNARETH_READ_KNOWLEDGE = 2, /* k, hundredths */
-    LLUNARETH_READ_HEIGHT = 3,    /* H_T, mm */
-    LLUNARETH_READ_STOREYS = 4,   /* n_s */
-    LLUNARETH_READ_TILT1 = 5,     /* microradians */
-    LLUNARETH_READ_TILT2 = 6,
-    LLUNARETH_READ_COUNT = 7,     /* number of S lines */
-    LLUNARETH_READ_STOREY_ROWS = 8,
-    LLUNARETH_READ_MEMBER_ROWS = 9
+    LLUNARETH_READ_HEADER = 0,
+    LLUNARETH_READ_KNOWLEDGE = 0, /* k, hundredths */
+    LLUNARETH_READ_HEIGHT = 1,    /* H_T, mm */
+    LLUNARETH_READ_STOREYS = 2,   /* n_s */
+    LLUNARETH_READ_TILT1 = 3,     /* microradians */
+    LLUNARETH_READ_TILT2 = 4,
+    LLUNARETH_READ_COUNT = 5,     /* number of S lines */
+    LLUNARETH_READ_STOREY_ROWS = 6,
+    LLUNARETH_READ_MEMBER_ROWS = 7,
+    LLUNARETH_READ_VALUES = 8     /* how many values there are */
 };
 
-/* Places in the answer of llunareth_judge_member. */
+/* Places of the values of llunareth_judge_member. */
 enum {
-    LLUNARETH_MEMBER_CLASS = 2,    /* 1 to 3 columns A to C, 4 and 5 walls A and B */
-    LLUNARETH_MEMBER_M = 3,        /* ten-thousandths, as its limit */
-    LLUNARETH_MEMBER_M_LIMIT = 4,
-    LLUNARETH_MEMBER_ROTATION = 5, /* microradians, as its limit */
-    LLUNARETH_MEMBER_ROTATION_LIMIT = 6,
-    LLUNARETH_MEMBER_OVER = 7,     /* 0 or 1 */
-    LLUNARETH_MEMBER_ND = 8        /* the axial ratio n_D, ten-thousandths */
+    LLUNARETH_MEMBER_CLASS = 0,    /* 1 to 3 columns A to C, 4 and 5 walls A and B */
+    LLUNARETH_MEMBER_M = 1,        /* ten-thousandths, as its limit */
+    LLUNARETH_MEMBER_M_LIMIT = 2,
+    LLUNARETH_MEMBER_ROTATION = 3, /* microradians, as its limit */
+    LLUNARETH_MEMBER_ROTATION_LIMIT = 4,
+    LLUNARETH_MEMBER_OVER = 5,     /* 0 or 1 */
+    LLUNARETH_MEMBER_ND = 6,       /* the axial ratio n_D, ten-thousandths */
+    LLUNARETH_MEMBER_VALUES = 7    /* how many values there are */
 };
 
-/* Places in the answer of llunareth_judge_storey. */
+/* Places of the values of llunareth_judge_storey. */
 enum {
-    LLUNARETH_STOREY_AXIAL_TOTAL = 2,  /* total of n_D */
-    LLUNARETH_STOREY_MEMBERS = 3,      /* c */
-    LLUNARETH_STOREY_OVER_SHEAR = 4,   /* P, total of V over the members that are over */
-    LLUNARETH_STOREY_SHEAR = 5,        /* W, the storey shear */
-    LLUNARETH_STOREY_RISKY = 6,        /* 0 or 1 */
-    LLUNARETH_STOREY_WALLS_SUFFICE = 7 /* 1 where the walls carry 0.40 of the storey shear or more, else 0 */
+    LLUNARETH_STOREY_AXIAL_TOTAL = 0,   /* total of n_D, ten-thousandths */
+    LLUNARETH_STOREY_MEMBERS = 1,       /* c */
+    LLUNARETH_STOREY_OVER_SHEAR = 2,    /* P, total of V over the members that are over, 0.1 kN */
+    LLUNARETH_STOREY_SHEAR = 3,         /* W, the storey shear, 0.1 kN */
+    LLUNARETH_STOREY_RISKY = 4,         /* 0 or 1 */
+    LLUNARETH_STOREY_WALLS_SUFFICE = 5, /* 1 where the walls carry 0.40 of the storey shear or more, else 0 */
+    LLUNARETH_STOREY_VALUES = 6         /* how many values there are */
 };
 
-/* Places in the answer of llunareth_judge_building. */
+/* Places of the values of llunareth_judge_building. */
 enum {
-    LLUNARETH_BUILDING_TILTED = 2, /* 1 where the larger tilt is above 25,000, else 0 */
-    LLUNARETH_BUILDING_RISKY = 3,  /* 0 or 1 */
-    LLUNARETH_BUILDING_PLACE = 4   /* a Risky storey's place, counted from 1; 0 where none is Risky */
+    LLUNARETH_BUILDING_TILTED = 0, /* 1 where the larger tilt is above 25,000, else 0 */
+    LLUNARETH_BUILDING_RISKY = 1,  /* 0 or 1 */
+    LLUNARETH_BUILDING_PLACE = 2,  /* a Risky storey's place, counted from 1; 0 where none is Risky */
+    LLUNARETH_BUILDING_VALUES = 3  /* how many values there are */
 };
 
-/* Places in the answer of llunareth_report. */
-enum { LLUNARETH_REPORT_LENGTH = 2 };
+/* Places of the values of llunareth_report. */
+enum {
+    LLUNARETH_REPORT_LENGTH = 0, /* of the sheet, bytes */
+    LLUNARETH_REPORT_VALUES = 1  /* how many values there are */
+};
+
+/* The form of the calls as the library has it: LLUNARETH_VERSION, or the library is not for this header. */
+uint64_t llunareth_version(void);
 
 /*
  * Reads a survey file. Accepted: the storeys and the members fill the rows from the front, in the order of the file, and the rows after
@@ -190,8 +217,9 @@ uint64_t llunareth_report(const uint64_t *header, size_t header_len, const struc
 
 /*
  * Puts what the program `determine` prints for a file from the front of the bytes `text` and returns its length; the bytes after it are
- * left alone. That is the sheet, or the line E (26 bytes) with refusal and line: with 8 and 0 where the file is longer than
- * LLUNARETH_FILE_MOST, with 9 and 0 where the sheet does not fit. Where the line E does not fit, it returns 0 and leaves all bytes alone.
+ * left alone. It has no refusal: the text is the answer, the sheet or the line E (26 bytes) with refusal and line, 8 and 0 where the file
+ * is longer than LLUNARETH_FILE_MOST, 9 and 0 where the sheet does not fit. Where the line E does not fit, it returns 0 and leaves all
+ * bytes alone.
  */
 size_t llunareth_determine(const uint8_t *file, size_t file_len, uint8_t *text, size_t text_len);
 

@@ -7,8 +7,8 @@
  *   refused: N at line L
  *   refused: N              no line is named
  *
- * A file is refused where `determine` refuses it. Exit status: 0 for a verdict, 1 for a refusal, 2 where the file cannot be read or the
- * line cannot be written.
+ * A file is refused where `determine` refuses it. Exit status: 0 for a verdict, 1 for a refusal, 2 where the file cannot be read, the
+ * line cannot be written, or the library has another form of the calls than the header.
  *
  * gcc -std=c99 -I bindings/c bindings/c/verdict.c target/staticlib/libexports.a -o verdict
  */
@@ -52,12 +52,12 @@ static int print_verdict(uint64_t risky, uint64_t place)
 /* Judges the building whose header stands in what the reading call put out. */
 static int judge(const uint64_t *read)
 {
-    uint64_t found[LLUNARETH_NUMBERS] = {0};
-    uint64_t refusal = llunareth_judge_building(read + LLUNARETH_READ_HEADER, LLUNARETH_HEADER_NUMBERS, storeys,
-                                                (size_t)read[LLUNARETH_READ_STOREY_ROWS], members,
-                                                (size_t)read[LLUNARETH_READ_MEMBER_ROWS], found, LLUNARETH_NUMBERS);
-    if (refusal != 0) {
-        return print_refusal(refusal, found[LLUNARETH_LINE]);
+    uint64_t found[LLUNARETH_BUILDING_VALUES] = {0};
+    uint64_t returned = llunareth_judge_building(read + LLUNARETH_READ_HEADER, LLUNARETH_HEADER_NUMBERS, storeys,
+                                                 (size_t)read[LLUNARETH_READ_STOREY_ROWS], members,
+                                                 (size_t)read[LLUNARETH_READ_MEMBER_ROWS], found, LLUNARETH_BUILDING_VALUES);
+    if (returned != 0) {
+        return print_refusal(LLUNARETH_REFUSAL(returned), LLUNARETH_LINE(returned));
     }
     return print_verdict(found[LLUNARETH_BUILDING_RISKY], found[LLUNARETH_BUILDING_PLACE]);
 }
@@ -68,10 +68,11 @@ static int determine(size_t length)
     if (length > LLUNARETH_FILE_MOST) {
         return print_refusal(TOO_LONG, 0);
     }
-    uint64_t read[LLUNARETH_NUMBERS] = {0};
-    uint64_t refusal = llunareth_read(file, length, storeys, LLUNARETH_STOREY_ROWS, members, LLUNARETH_MEMBER_ROWS, read, LLUNARETH_NUMBERS);
-    if (refusal != 0) {
-        return print_refusal(refusal, read[LLUNARETH_LINE]);
+    uint64_t read[LLUNARETH_READ_VALUES] = {0};
+    uint64_t returned =
+        llunareth_read(file, length, storeys, LLUNARETH_STOREY_ROWS, members, LLUNARETH_MEMBER_ROWS, read, LLUNARETH_READ_VALUES);
+    if (returned != 0) {
+        return print_refusal(LLUNARETH_REFUSAL(returned), LLUNARETH_LINE(returned));
     }
     return judge(read);
 }
@@ -106,6 +107,10 @@ static int run_named(const char *name)
 
 int main(int argc, char **argv)
 {
+    if (llunareth_version() != LLUNARETH_VERSION) {
+        fputs("verdict: the library has another form of the calls\n", stderr);
+        return FAILED;
+    }
     if (argc > 2) {
         fputs("usage: verdict [FILE]\n", stderr);
         return FAILED;

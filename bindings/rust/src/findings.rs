@@ -1,4 +1,5 @@
 //! What the calls answer.
+use crate::raw::LINE_UNIT;
 use std::fmt;
 
 /// A refusal by its number (docs/REFUSALS.md), with the line when reading, else line 0.
@@ -6,6 +7,13 @@ use std::fmt;
 pub struct Refusal {
     pub number: u64,
     pub line: u64,
+}
+
+impl Refusal {
+    /// From what a call returned.
+    pub(crate) fn unpacked(returned: u64) -> Refusal {
+        Refusal { number: returned % LINE_UNIT, line: returned / LINE_UNIT }
+    }
 }
 
 impl fmt::Display for Refusal {
@@ -19,7 +27,8 @@ impl fmt::Display for Refusal {
 
 impl std::error::Error for Refusal {}
 
-/// What is found of a member. Ratios are in ten-thousandths, rotations in microradians.
+/// What is found of a member. Ratios are in ten-thousandths ([`RATIO_SCALE`](crate::RATIO_SCALE)), rotations in microradians
+/// ([`ROTATION_SCALE`](crate::ROTATION_SCALE)).
 #[derive(Clone, Copy, Debug, PartialEq, Eq, Hash)]
 pub struct MemberFinding {
     /// 1 to 3 columns A to C, 4 and 5 walls A and B.
@@ -34,7 +43,7 @@ pub struct MemberFinding {
     pub nd: u64,
 }
 
-/// What is found of a storey. Forces are in 0.1 kN.
+/// What is found of a storey. Forces are in 0.1 kN ([`FORCE_SCALE`](crate::FORCE_SCALE)).
 #[derive(Clone, Copy, Debug, PartialEq, Eq, Hash)]
 pub struct StoreyFinding {
     /// Σ, the total of n_D, ten-thousandths.

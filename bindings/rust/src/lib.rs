@@ -1,22 +1,21 @@
 //! The proved calls of Llunareth for programs in Rust: read a survey file, check a record, judge a member, a storey and a building, write the
 //! report. docs/CALLS.md has the calls and their refusals, docs/FORMAT.md the survey file and its fields.
 //!
-//! No call relies on checks made before it: every file and record, good or bad, yields an answer or a refusal.
+//! No call relies on checks made before it: every file and record, good or bad, yields an answer or a refusal. Every call panics where the
+//! linked library has another form of the calls than this package knows ([`raw::VERSION`]).
 mod findings;
 pub mod raw;
 mod records;
 
 pub use findings::{BuildingFinding, MemberFinding, Refusal, StoreyFinding};
-pub use records::{Header, LoadCase, Member, Storey, Survey, ZERO_FORCE};
+pub use records::{Header, LoadCase, Member, Storey, Survey, FORCE_SCALE, RATIO_SCALE, ROTATION_SCALE, ZERO_FORCE};
 
-/// The values that a call puts out after refusal and line.
-fn values(call: impl FnOnce(&mut [u64]) -> u64) -> Result<[u64; 8], Refusal> {
-    let mut out = [0; 10];
-    let number = call(&mut out);
-    let [_, line, values @ ..] = out;
-    match number {
-        0 => Ok(values),
-        number => Err(Refusal { number, line }),
+/// The values that a call puts out.
+fn values<const N: usize>(call: impl FnOnce(&mut [u64]) -> u64) -> Result<[u64; N], Refusal> {
+    let mut out = [0; N];
+    match call(&mut out) {
+        0 => Ok(out),
+        returned => Err(Refusal::unpacked(returned)),
     }
 }
 
@@ -46,7 +45,7 @@ fn checked(number: u64) -> Result<(), Refusal> {
 /// # Ok::<(), Box<dyn std::error::Error>>(())
 /// ```
 pub fn read<'a>(file: &[u8], storeys: &'a mut [Storey], members: &'a mut [Member]) -> Result<Survey<'a>, Refusal> {
-    let [header @ .., storey_rows, member_rows] = values(|out| raw::read(file, storeys, members, out))?;
+    let [header @ .., storey_rows, member_rows] = values::<{ raw::READ_VALUES }>(|out| raw::read(file, storeys, members, out))?;
     Ok(Survey { header: Header::from(header), storeys: front(storeys, storey_rows), members: front(members, member_rows) })
 }
 
@@ -93,20 +92,20 @@ pub fn member_fault(member: &Member) -> Result<(), Refusal> {
 /// Judges a member with k and whether its storey meets the 0.40 condition ([`StoreyFinding::walls_suffice`]). Refused by 3, k's first, or 4.
 ///
 /// ```
-/// use llunareth::{judge_member, Member, ZERO_FORCE};
+/// use llunareth::{judge_member, Member, RATIO_SCALE, ZERO_FORCE};
 /// let member = Member::from([
 ///     1, 300, 300, 90_000, 100, 110, 2_200, 270, 3_000, 200, 250, 100, 0, 0, 0, 100, 0,
 ///     ZERO_FORCE + 3_150, ZERO_FORCE + 3_150, 600, 200, 60, 100, 200, 9_000, 0,
 /// ]);
 /// let found = judge_member(100, false, &member)?;
-/// assert_eq!((found.class, found.m, found.m_limit, found.over), (2, 30_000, 25_909, true));
+/// assert_eq!((found.class, found.m, found.m_limit, found.over), (2, 3 * RATIO_SCALE, 25_909, true));
 /// assert_eq!((found.rotation, found.rotation_limit, found.nd), (9_000, 12_500, 3_500));
 /// assert_eq!(judge_member(95, false, &member).unwrap_err().number, 3);
 /// # Ok::<(), llunareth::Refusal>(())
 /// ```
 pub fn judge_member(k: u64, met: bool, member: &Member) -> Result<MemberFinding, Refusal> {
-    let [class, m, m_limit, rotation, rotation_limit, over, nd, _] =
-        values(|out| raw::judge_member(k, met, &<[u64; 26]>::from(*member), out))?;
+    let [class, m, m_limit, rotation, rotation_limit, over, nd] =
+        values::<{ raw::MEMBER_VALUES }>(|out| raw::judge_member(k, met, &<[u64; 26]>::from(*member), out))?;
     Ok(MemberFinding { class, m, m_limit, rotation, rotation_limit, over: over == 1, nd })
 }
 
@@ -124,8 +123,8 @@ pub fn judge_member(k: u64, met: bool, member: &Member) -> Result<MemberFinding,
 /// # Ok::<(), Box<dyn std::error::Error>>(())
 /// ```
 pub fn judge_storey(k: u64, storey: &Storey, members: &[Member]) -> Result<StoreyFinding, Refusal> {
-    let [axial_total, count, over_shear, shear, risky, walls_suffice, ..] =
-        values(|out| raw::judge_storey(k, &<[u64; 3]>::from(*storey), members, out))?;
+    let [axial_total, count, over_shear, shear, risky, walls_suffice] =
+        values::<{ raw::STOREY_VALUES }>(|out| raw::judge_storey(k, &<[u64; 3]>::from(*storey), members, out))?;
     Ok(StoreyFinding { axial_total, members: count, over_shear, shear, risky: risky == 1, walls_suffice: walls_suffice == 1 })
 }
 
@@ -141,7 +140,8 @@ pub fn judge_storey(k: u64, storey: &Storey, members: &[Member]) -> Result<Store
 /// # Ok::<(), Box<dyn std::error::Error>>(())
 /// ```
 pub fn judge_building(header: &Header, storeys: &[Storey], members: &[Member]) -> Result<BuildingFinding, Refusal> {
-    let [tilted, risky, place, ..] = values(|out| raw::judge_building(&<[u64; 6]>::from(*header), storeys, members, out))?;
+    let [tilted, risky, place] =
+        values::<{ raw::BUILDING_VALUES }>(|out| raw::judge_building(&<[u64; 6]>::from(*header), storeys, members, out))?;
     Ok(BuildingFinding { tilted: tilted == 1, risky: risky == 1, place })
 }
 
@@ -161,13 +161,13 @@ pub fn judge_building(header: &Header, storeys: &[Storey], members: &[Member]) -
 /// # Ok::<(), Box<dyn std::error::Error>>(())
 /// ```
 pub fn report<'a>(header: &Header, storeys: &[Storey], members: &[Member], sheet: &'a mut [u8]) -> Result<&'a [u8], Refusal> {
-    let [length, ..] = values(|out| raw::report(&<[u64; 6]>::from(*header), storeys, members, sheet, out))?;
+    let [length] = values::<{ raw::REPORT_VALUES }>(|out| raw::report(&<[u64; 6]>::from(*header), storeys, members, sheet, out))?;
     Ok(front(sheet, length))
 }
 
-/// What the program `determine` prints for a file, put to the front of the bytes; those after it are left alone. That is the sheet, or the
-/// line `E` (26 bytes) with refusal and line: with 8 and 0 where the file is longer than 65,536 bytes, with 9 and 0 where the sheet does not
-/// fit. Where the line `E` does not fit, it is empty and all bytes are left alone. 28,286 bytes hold every sheet.
+/// What the program `determine` prints for a file, put to the front of the bytes; those after it are left alone. There is no refusal: the
+/// text is the answer, the sheet or the line `E` (26 bytes) with refusal and line, 8 and 0 where the file is longer than 65,536 bytes, 9 and 0
+/// where the sheet does not fit. Where the line `E` does not fit, it is empty and all bytes are left alone. 28,286 bytes hold every sheet.
 ///
 /// ```
 /// let file = std::fs::read("../../samples/worked-example.survey")?;

@@ -1,9 +1,40 @@
 //! The calls as the proved library has them: slices of any length in, and numbers out, as in `bindings/c/llunareth.h`. A record handed in as
-//! numbers has them in the order of its line; one that lacks a number is refused. An `out` that does not hold ten numbers is left as it was.
-//! Each call that puts out numbers also returns the refusal, 0 for none.
+//! numbers has them in the order of its line; one that lacks a number is refused.
+//!
+//! A call with an `out` returns refusal and line in one number ([`LINE_UNIT`]), 0 where it is accepted. Accepted, it puts its values, and only
+//! these, to the front of `out`. Refused, it leaves everything that was lent as it was. Where `out` is too short for its values, it returns
+//! [`SHORT`] before anything else, and leaves everything as it was too.
+//!
+//! Each call panics where the linked library has another form of the calls than [`VERSION`].
 use crate::{Member, Storey};
+use std::sync::OnceLock;
+
+/// The form of the calls that this package knows.
+pub const VERSION: u64 = 2;
+
+/// Returned where `out` is too short for a call's values; no refusal has this number.
+pub const SHORT: u64 = 255;
+
+/// What a call returns is the refusal and this many times its line.
+pub const LINE_UNIT: u64 = 256;
+
+/// How many values [`read`] puts out.
+pub const READ_VALUES: usize = 8;
+
+/// How many values [`judge_member`] puts out.
+pub const MEMBER_VALUES: usize = 7;
+
+/// How many values [`judge_storey`] puts out.
+pub const STOREY_VALUES: usize = 6;
+
+/// How many values [`judge_building`] puts out.
+pub const BUILDING_VALUES: usize = 3;
+
+/// How many values [`report`] puts out.
+pub const REPORT_VALUES: usize = 1;
 
 extern "C" {
+    fn llunareth_version() -> u64;
     fn llunareth_read(
         file: *const u8,
         file_len: usize,
@@ -52,10 +83,27 @@ extern "C" {
     fn llunareth_determine(file: *const u8, file_len: usize, text: *mut u8, text_len: usize) -> usize;
 }
 
+/// The form of the calls that the linked library has.
+pub fn version() -> u64 {
+    unsafe { llunareth_version() }
+}
+
+/// Panics where a library has another form of the calls than this package knows.
+fn expect(version: u64) {
+    assert!(version == VERSION, "the linked library has version {version} of the calls, this package version {VERSION}");
+}
+
+/// Looks at the linked library's version before the first call.
+fn expect_version() {
+    static LOOKED_AT: OnceLock<()> = OnceLock::new();
+    LOOKED_AT.get_or_init(|| expect(version()));
+}
+
 // Each call below is sound for every slice: it is handed a slice's own pointer and length, and stays within them.
 
-/// Reads a file into the rows. Numbers put out: refusal, line, the six fields of B, the storey rows and the member rows filled.
+/// Reads a file into the rows. Values: the six fields of B, the storey rows and the member rows filled.
 pub fn read(file: &[u8], storeys: &mut [Storey], members: &mut [Member], out: &mut [u64]) -> u64 {
+    expect_version();
     unsafe {
         llunareth_read(
             file.as_ptr(),
@@ -72,33 +120,39 @@ pub fn read(file: &[u8], storeys: &mut [Storey], members: &mut [Member], out: &m
 
 /// The number of a header's refusal, 0 for none.
 pub fn header_fault(values: &[u64]) -> u64 {
+    expect_version();
     unsafe { llunareth_header_fault(values.as_ptr(), values.len()) }
 }
 
 /// The number of a storey's refusal, 0 for none.
 pub fn storey_fault(values: &[u64]) -> u64 {
+    expect_version();
     unsafe { llunareth_storey_fault(values.as_ptr(), values.len()) }
 }
 
 /// The number of a member's refusal, 0 for none.
 pub fn member_fault(values: &[u64]) -> u64 {
+    expect_version();
     unsafe { llunareth_member_fault(values.as_ptr(), values.len()) }
 }
 
-/// Judges a member. Numbers put out: refusal, 0, class, m, its limit, rotation, its limit, over, n_D, 0.
+/// Judges a member. Values: class, m, its limit, rotation, its limit, over, n_D.
 pub fn judge_member(k: u64, met: bool, values: &[u64], out: &mut [u64]) -> u64 {
+    expect_version();
     unsafe { llunareth_judge_member(k, met, values.as_ptr(), values.len(), out.as_mut_ptr(), out.len()) }
 }
 
-/// Judges a storey. Numbers put out: refusal, 0, Σ, c, P, W, Risky, whether the 0.40 condition is met, 0, 0.
+/// Judges a storey. Values: Σ, c, P, W, Risky, whether the 0.40 condition is met.
 pub fn judge_storey(k: u64, storey: &[u64], members: &[Member], out: &mut [u64]) -> u64 {
+    expect_version();
     unsafe {
         llunareth_judge_storey(k, storey.as_ptr(), storey.len(), members.as_ptr(), members.len(), out.as_mut_ptr(), out.len())
     }
 }
 
-/// Judges a building. Numbers put out: refusal, 0, tilt above 25,000, Risky, a Risky storey's place or 0, and zeros.
+/// Judges a building. Values: tilt above 25,000, Risky, a Risky storey's place or 0.
 pub fn judge_building(header: &[u64], storeys: &[Storey], members: &[Member], out: &mut [u64]) -> u64 {
+    expect_version();
     unsafe {
         llunareth_judge_building(
             header.as_ptr(),
@@ -113,8 +167,9 @@ pub fn judge_building(header: &[u64], storeys: &[Storey], members: &[Member], ou
     }
 }
 
-/// Writes the sheet of a building to the front of `sheet`. Numbers put out: refusal, 0, the sheet's length, and zeros.
+/// Writes the sheet of a building to the front of `sheet`. Values: the sheet's length.
 pub fn report(header: &[u64], storeys: &[Storey], members: &[Member], sheet: &mut [u8], out: &mut [u64]) -> u64 {
+    expect_version();
     unsafe {
         llunareth_report(
             header.as_ptr(),
@@ -131,7 +186,25 @@ pub fn report(header: &[u64], storeys: &[Storey], members: &[Member], sheet: &mu
     }
 }
 
-/// Puts what `determine` prints for a file to the front of `text`; how many bytes, 0 where it does not fit.
+/// Puts what `determine` prints for a file to the front of `text`; how many bytes, 0 where it does not fit. It has no refusal: the text is the
+/// answer.
 pub fn determine(file: &[u8], text: &mut [u8]) -> usize {
+    expect_version();
     unsafe { llunareth_determine(file.as_ptr(), file.len(), text.as_mut_ptr(), text.len()) }
+}
+
+#[cfg(test)]
+mod tests {
+    use super::{expect, version, VERSION};
+
+    #[test]
+    fn the_version_of_the_library() {
+        assert_eq!(version(), VERSION);
+    }
+
+    #[test]
+    #[should_panic(expected = "the linked library has version 3 of the calls, this package version 2")]
+    fn another_version() {
+        expect(3);
+    }
 }

@@ -3,6 +3,15 @@
 /// N_D and N_K are counted from -20,000,000: this number stands for 0. A force handed in as it is, is refused by 3.
 pub const ZERO_FORCE: u64 = 20_000_000;
 
+/// A ratio divided by this is the ratio itself: m and its limit, n_D, Σ.
+pub const RATIO_SCALE: u64 = 10_000;
+
+/// A rotation, its limit or a tilt divided by this is in radians.
+pub const ROTATION_SCALE: u64 = 1_000_000;
+
+/// A force (N_D and N_K less [`ZERO_FORCE`]) divided by this is in kN, a moment in kNm.
+pub const FORCE_SCALE: u64 = 10;
+
 /// The B line.
 #[repr(C)]
 #[derive(Clone, Copy, Debug, Default, PartialEq, Eq, Hash)]

@@ -12,7 +12,7 @@ use borrow.Author.Tests.{lt-ltb, le-ltb, ltb-true, ltb-false}
 use Rattle.records.specs.First.{pick}
 use Rattle.format.specs.Spelling.{column, spelled}
 use Rattle.format.proofs.Typed.{length-spelled}
-use Rattle.columns.specs.Line.{stamped, digitsOver}
+use Rattle.columns.specs.Bytes.{stamped, digitsOver}
 use Rattle.columns.proofs.Stamps.{stamped-both}
 
 -- ---- a turn of the loop

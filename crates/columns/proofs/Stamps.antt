@@ -13,7 +13,8 @@ use Rattle.format.specs.Spelling.{spelled}
 use Rattle.format.proofs.Typed.{length-spelled}
 use borrow.Author.Tests.{le-leb, lt-leb, leb-true, ltb-true, ltb-false}
 use Rattle.records.proofs.Below.{agree}
-use Rattle.columns.specs.Line.{printedNumbers, line, stamped, atFront, putLength, putAt, placeAfter}
+use Rattle.columns.specs.Line.{printedNumbers, line, atFront, putLength}
+use Rattle.columns.specs.Bytes.{stamped, putAt, placeAfter}
 
 pub length-stamped : (xs bytes : List ℕ) (at : ℕ) → length (stamped bytes at xs) ≡ length bytes
 unfolding stamped

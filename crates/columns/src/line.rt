@@ -4,7 +4,8 @@ ghost use Prim.Native.Nat.{_+_, _*_, _≤_};
 ghost use lib.Dec.{leb};
 ghost use lib.ListN.{length};
 ghost use Rattle.format.specs.Spelling.{spelled};
-ghost use Rattle.columns.specs.Line.{line, stamped, digitsOver, putAt, placeAfter};
+ghost use Rattle.columns.specs.Line.{line};
+ghost use Rattle.columns.specs.Bytes.{stamped, digitsOver, putAt, placeAfter};
 
 // Bytes as they stand.
 fn put_text(out: &mut [u8], at: usize, text: &[u8]) -> usize

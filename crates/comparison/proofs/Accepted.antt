@@ -7,7 +7,7 @@ use mathlib.Core.Path.{_≡_, refl, sym, ap, _∙_}
 use lib.Dec.{eqb}
 use lib.ListN.{length}
 use borrow.Author.Tests.{eqb-true, eq-eqb, leb-true}
-use Rattle.records.specs.First.{pick, every}
+use Rattle.records.specs.First.{pick, everyBelow}
 use Rattle.records.specs.Records.{inRange, storeyValues, storeyFault, memberFault, repeated}
 use Rattle.records.specs.declared.Header.{Header}
 use Rattle.records.specs.declared.Storey.{Storey}
@@ -15,15 +15,17 @@ use Rattle.records.specs.declared.Member.{Member}
 use Rattle.records.specs.declared.Tag.the-variants.{S}
 use Rattle.records.proofs.Below.{and-left, every-at}
 use Rattle.records.proofs.Validity.{clear}
-use Rattle.members.specs.Finding.{knowledge, answerBy}
+use Rattle.members.specs.Finding.{knowledge, answerBy, Returned}
 use Rattle.storeys.specs.declared.BuildingFinding.{BuildingFinding}
 use Rattle.storeys.specs.declared.BuildingAnswer.{BuildingAnswer}
 use Rattle.storeys.specs.declared.BuildingAnswer.the-variants.{Judged, Refused}
-use Rattle.storeys.specs.Storey.{Rules, meetsWallShare, over, overShear, storeyRisky, storeyFinding, countFault, knowledgeFault, shearFault, noMember, memberIn, rowFault, memberRowsFault, storeyCallFault, storeyAnswerBy}
+use Rattle.storeys.specs.Storey.{Rules, meetsWallShare, over, overShear, storeyRisky, storeyFinding, countFault, knowledgeFault, shearFault, memberIn, rowFault, memberRowsFault, storeyCallFault, storeyAnswerBy}
+use Rattle.records.specs.Blank.{noMember}
 use Rattle.storeys.specs.Building.{storeyIn, membersOf, shearFaultAt, buildingFault, buildingRisky, buildingFinding, buildingAnswerBy, placeIn, returnedBuilding}
 use Rattle.comparison.specs.Demand3.{Survey, knowledgeOf, StoreyMembers, storeyMembersAt, storeysMembers, Accepted, overIn, riskyIn, buildingRiskyIn}
 use Rattle.comparison.proofs.Pairs.{All, all-rows, all-listed}
 use Rattle.comparison.proofs.Tests.{never}
+use Rattle.storeys.proofs.Returned.{answer-same}
 use Rattle.storeys.proofs.Refusals.{None, end, also, one, rest, in-order-clear, in-order-none, first-clear}
 use Rattle.storeys.proofs.Accepted.{known-level, members-counted, total-counted, rows, checks}
 
@@ -63,7 +65,7 @@ module _ (rules : Rules) (h : Header) (ss : List Storey) (ms : List Member) (non
 storey-members : (s : Storey) → storeyFault s ≡ 0 → 1 ≤ s .count
 unfolding storeyFault
 storey-members s e =
-    let c = every-at (inRange S (storeyValues s)) 3 2 (clear (every (inRange S (storeyValues s)) 3) 0 3 e (omega arith) .0) (omega arith) in
+    let c = every-at (inRange S (storeyValues s)) 3 2 (clear (everyBelow (inRange S (storeyValues s)) 3) 0 3 e (omega arith) .0) (omega arith) in
     leb-true 1 (s .count) (and-left _ _ c)
 
 module _ (rules : Rules) (k : ℕ) (f : StoreyMembers) (sound : Sound rules k f) where
@@ -102,11 +104,11 @@ module _ (rules : Rules) (a : Survey) (r : BuildingAnswer) (acc : Accepted rules
   pub building-clear : buildingFault rules (a .header) (a .storeys) (a .members) ≡ 0
   unfolding buildingAnswerBy
   building-clear =
-      let e = ap (λ x. returnedBuilding x .refusal) (acc .answers .same) in
+      let e = ap (λ (x : Returned). x .refusal) (acc .answers .same) in
       clear-by (eqb (buildingFault rules (a .header) (a .storeys) (a .members)) 0) _ _ refl (sym e ∙ acc .no-refusal)
 
   pub verdict-found : buildingRiskyIn r ≡ buildingRisky rules (a .header) (a .storeys) (a .members)
-  verdict-found = ap buildingRiskyIn (acc .answers .same) ∙ verdict-at rules (a .header) (a .storeys) (a .members) building-clear (placeIn r)
+  verdict-found = ap buildingRiskyIn (answer-same rules (a .header) (a .storeys) (a .members) r (acc .answers)) ∙ verdict-at rules (a .header) (a .storeys) (a .members) building-clear (placeIn r)
 
   pub level-known : knowledge (knowledgeOf a) ≡ true
   level-known = known-level rules (a .header) (a .storeys) (a .members) building-clear

@@ -6,14 +6,15 @@ use mathlib.Core.Bool.{Bool, true, _||_, or-false, or-assoc}
 use mathlib.Core.List.{List, [], _∷_, _++_}
 use mathlib.Core.Path.{_≡_, refl, sym, _∙_}
 use lib.ListN.{length}
-use Rattle.records.specs.First.{any}
+use Rattle.records.specs.First.{anyBelow}
 use Rattle.records.specs.Records.{memberFault}
-use Rattle.records.specs.Totals.{listed, some}
+use Rattle.records.specs.Totals.{listed, anyOf}
 use Rattle.records.proofs.Validity.{valid}
 use Rattle.members.specs.Finding.{answerBy}
 use Rattle.members.proofs.Order.{published-ordered}
 use Rattle.storeys.specs.declared.BuildingAnswer.{BuildingAnswer}
-use Rattle.storeys.specs.Storey.{Rules, publishedRules, orderly, meetsWallShare, over, storeyRisky, storeyAnswerBy}
+use Rattle.storeys.specs.Storey.{Rules, publishedRules, meetsWallShare, over, storeyRisky, storeyAnswerBy}
+use Rattle.comparison.specs.Orderly.{orderly}
 use Rattle.storeys.specs.Building.{riskyAt, someRisky, buildingRisky, tiltAllowed, tilted}
 use Rattle.comparison.specs.Pairing.{EveryPair}
 use Rattle.comparison.specs.Demand3.{Survey, knowledgeOf, StoreyMembers, storeyMembersAt, storeysMembers, Accepted, overIn, riskyIn, Over, Risky, MemberPairs, StoreyPairs, AtLeastAsSevere, AtLeastAsSevereStorey, NowhereBetter, Carried, Demand3By, Demand3}
@@ -64,13 +65,13 @@ module _ (rules : Rules) (good : Orderly rules) (j k : ℕ) (same : j ≡ k) (po
   storey-carried e = risky-found rules k g sg ∙ risky-kept (sym (risky-found rules j f sf) ∙ e)
 
 -- some storey of a building is Risky: one in the list of its storeys with their members is
-some-after : {A : Type 0} (p : A → Bool) (xs : List A) (x : A) → some p (xs ++ (x ∷ [])) ≡ (some p xs || p x)
-unfolding some
+some-after : {A : Type 0} (p : A → Bool) (xs : List A) (x : A) → anyOf p (xs ++ (x ∷ [])) ≡ (anyOf p xs || p x)
+unfolding anyOf
 some-after p [] x = or-false (p x)
-some-after p (y ∷ xs) x = rw (some-after p xs x) (sym (or-assoc (p y) (some p xs) (p x)))
+some-after p (y ∷ xs) x = rw (some-after p xs x) (sym (or-assoc (p y) (anyOf p xs) (p x)))
 
-some-listed : {A : Type 0} (p : A → Bool) (f : ℕ → A) (n : ℕ) → some p (listed f n) ≡ any (λ i. p (f i)) n
-unfolding some listed any
+some-listed : {A : Type 0} (p : A → Bool) (f : ℕ → A) (n : ℕ) → anyOf p (listed f n) ≡ anyBelow (λ i. p (f i)) n
+unfolding anyOf listed anyBelow
 some-listed p f zero = refl
 some-listed p f (suc n) = rw (some-after p (listed f n) (f n), some-listed p f n)
 
@@ -78,7 +79,7 @@ some-listed p f (suc n) = rw (some-after p (listed f n) (f n), some-listed p f n
 abbrev verdict : Rules → ℕ → StoreyMembers → Bool
 verdict rules k f = storeyRisky rules k (f .storey .shear) (f .members)
 
-some-storey : (rules : Rules) (a : Survey) → some (verdict rules (knowledgeOf a)) (storeysMembers a) ≡ someRisky rules (a .header) (a .storeys) (a .members)
+some-storey : (rules : Rules) (a : Survey) → anyOf (verdict rules (knowledgeOf a)) (storeysMembers a) ≡ someRisky rules (a .header) (a .storeys) (a .members)
 unfolding someRisky riskyAt
 some-storey rules a = some-listed (verdict rules (knowledgeOf a)) (storeyMembersAt a) (length (a .storeys))
 

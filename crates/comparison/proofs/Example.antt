@@ -5,9 +5,9 @@ use native.Mathlib.Omega.{arith}
 use mathlib.Core.Bool.{true, false}
 use mathlib.Core.List.{[], _∷_}
 use mathlib.Core.Path.{_≡_, refl}
-use Rattle.records.specs.First.{every, any, first}
+use Rattle.records.specs.First.{everyBelow, anyBelow, first}
 use Rattle.records.specs.Records.{zeroForce, headerFault, storeyFault, memberFault}
-use Rattle.records.specs.Totals.{listed, total, some}
+use Rattle.records.specs.Totals.{listed, total, anyOf}
 use Rattle.records.specs.declared.Member.{Member}
 use Rattle.members.specs.declared.class.Class.the-variants.{ColumnA, ColumnC}
 use Rattle.members.specs.Class.{isWall, detailed, columnClass, wallClass, classOf}
@@ -16,7 +16,8 @@ use Rattle.members.specs.Limits.{interp, blend, columnA, columnB, columnC, wall
 use Rattle.members.specs.Finding.{axial, moment, stress, hoops, mLimit, rotationLimit, mDropped, isOver, findingBy, answerBy}
 use Rattle.storeys.specs.declared.BuildingAnswer.{BuildingAnswer}
 use Rattle.storeys.specs.declared.BuildingAnswer.the-variants.{Judged}
-use Rattle.storeys.specs.Storey.{publishedRules, meetsWallShare, axialTotal, overShear, someOver, damaged, exceedsShare, riskyByDamage, storeyRisky, storeyFinding, noMember, rowFault, memberRowsFault, storeyCallFault, storeyAnswerBy}
+use Rattle.storeys.specs.Storey.{publishedRules, meetsWallShare, axialTotal, overShear, someOver, damaged, exceedsShare, riskyByDamage, storeyRisky, storeyFinding, rowFault, memberRowsFault, storeyCallFault, storeyAnswerBy}
+use Rattle.records.specs.Blank.{noMember}
 use Rattle.storeys.specs.Building.{membersBefore, membersOf, riskyAt, countsFault, storeyRowsFault, shearFaultAt, buildingFault, tilted, someRisky, buildingRisky, buildingFinding, buildingAnswerBy, named}
 use Rattle.comparison.specs.Pairing.{none, pair, EveryPair}
 use Rattle.comparison.specs.Demand3.{Survey, storeyMembersAt, Accepted, Over, Risky, BuildingRisky, StoreyPairs, AtLeastAsSevere, NowhereBetter, Carried}
@@ -180,7 +181,7 @@ pub record Found : Type 0 where
   pub building-risky : BuildingRisky answerOne
 
 pub found : Found
-unfolding every any first headerFault storeyFault memberFault detailed columnClass wallClass classOf places moments rotations interp blend columnA columnB columnC wallRows wallB mLimitAt rotationLimitAt axial moment stress hoops mLimit rotationLimit mDropped isOver findingBy answerBy total some meetsWallShare axialTotal overShear someOver damaged exceedsShare riskyByDamage storeyRisky storeyFinding noMember rowFault memberRowsFault storeyCallFault storeyAnswerBy membersBefore membersOf riskyAt countsFault storeyRowsFault shearFaultAt buildingFault tilted someRisky buildingRisky buildingFinding buildingAnswerBy
+unfolding everyBelow anyBelow first headerFault storeyFault memberFault detailed columnClass wallClass classOf places moments rotations interp blend columnA columnB columnC wallRows wallB mLimitAt rotationLimitAt axial moment stress hoops mLimit rotationLimit mDropped isOver findingBy answerBy total anyOf meetsWallShare axialTotal overShear someOver damaged exceedsShare riskyByDamage storeyRisky storeyFinding noMember rowFault memberRowsFault storeyCallFault storeyAnswerBy membersBefore membersOf riskyAt countsFault storeyRowsFault shearFaultAt buildingFault tilted someRisky buildingRisky buildingFinding buildingAnswerBy
 found =
     record {
       one-accepted = record { answers = record { same = refl; place = named 1 (omega arith) refl }; no-refusal = refl };

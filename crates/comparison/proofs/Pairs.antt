@@ -5,7 +5,7 @@ use mathlib.Core.Bool.{Bool, true, false, _||_}
 use mathlib.Core.List.{List, [], _∷_, _++_}
 use mathlib.Core.Path.{_≡_, refl, sym, ap, _∙_}
 use lib.ListN.{length, getD}
-use Rattle.records.specs.Totals.{listed, total, some}
+use Rattle.records.specs.Totals.{listed, total, anyOf}
 use Rattle.comparison.specs.Pairing.{Pairing, none, pair, EveryPair}
 use Rattle.comparison.proofs.Tests.{or-carried}
 
@@ -25,10 +25,10 @@ module _ {B : Type 0} where
   length-middle [] y after = refl
   length-middle (b ∷ before) y after = ap suc (length-middle before y after)
 
-  some-middle : (p : B → Bool) (before : List B) (y : B) (after : List B) → (p y || some p (before ++ after)) ≡ true → some p (before ++ (y ∷ after)) ≡ true
-  unfolding some
+  some-middle : (p : B → Bool) (before : List B) (y : B) (after : List B) → (p y || anyOf p (before ++ after)) ≡ true → anyOf p (before ++ (y ∷ after)) ≡ true
+  unfolding anyOf
   some-middle p [] y after e = e
-  some-middle p (b ∷ before) y after e = shift (p y) (p b) (some p (before ++ after)) (some p (before ++ (y ∷ after))) (some-middle p before y after) e
+  some-middle p (b ∷ before) y after e = shift (p y) (p b) (anyOf p (before ++ after)) (anyOf p (before ++ (y ∷ after))) (some-middle p before y after) e
     where
       shift : (a b c d : Bool) → ((a || c) ≡ true → d ≡ true) → (a || (b || c)) ≡ true → (b || d) ≡ true
       shift a true c d f g = refl
@@ -63,11 +63,11 @@ module _ {A B : Type 0} {Q : A → B → Type 0} where
   length-equal none = refl
   length-equal (pair {y = y} before after q p) = ap suc (length-equal p) ∙ sym (length-middle before y after)
 
-  pub some-carried : (f : A → Bool) (g : B → Bool) {xs : List A} {ys : List B} (p : Pairing Q xs ys) → EveryPair (λ x y q. f x ≡ true → g y ≡ true) p → some f xs ≡ true → some g ys ≡ true
-  unfolding some EveryPair
+  pub some-carried : (f : A → Bool) (g : B → Bool) {xs : List A} {ys : List B} (p : Pairing Q xs ys) → EveryPair (λ x y q. f x ≡ true → g y ≡ true) p → anyOf f xs ≡ true → anyOf g ys ≡ true
+  unfolding anyOf EveryPair
   some-carried f g none u e = e
   some-carried f g (pair {x = x} {y = y} {xs = xs} before after q p) u e =
-      some-middle g before y after (or-carried (f x) (some f xs) (g y) (some g (before ++ after)) (u .0) (λ h. some-carried f g p (u .1) h) e)
+      some-middle g before y after (or-carried (f x) (anyOf f xs) (g y) (anyOf g (before ++ after)) (u .0) (λ h. some-carried f g p (u .1) h) e)
 
   -- what holds of all elements of both lists holds of every pair
   pub of-all : (P : A → Type 0) (P' : B → Type 0) {xs : List A} {ys : List B} (p : Pairing Q xs ys) → All P xs → All P' ys → EveryPair (λ x y q. P x × P' y) p

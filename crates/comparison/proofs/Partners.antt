@@ -10,7 +10,7 @@ use Rattle.records.specs.declared.Member.{Member}
 use Rattle.members.specs.declared.class.Class.the-variants.{ColumnC, WallA, WallB}
 use Rattle.members.specs.declared.tables.LimitSet.{LimitSet}
 use Rattle.members.specs.Class.{code, isWall, detailed, shearBelow, columnClass, wallClass, classOf}
-use Rattle.members.specs.Tables.{orderedSet}
+use Rattle.members.specs.Ordered.{orderedSet}
 use Rattle.members.specs.Finding.{axialRatioD, isOver}
 use Rattle.members.proofs.Worse.{Worse, nd-worse, over-stays}
 use Rattle.storeys.specs.Storey.{wallShear}

@@ -12,9 +12,10 @@ use Rattle.records.specs.First.{pick}
 use Rattle.records.specs.Valid.{Valid}
 use Rattle.records.specs.declared.Member.{Member}
 use Rattle.records.proofs.Below.{and-left, and-right}
-use Rattle.members.specs.Tables.{orderedSet}
+use Rattle.members.specs.Ordered.{orderedSet}
 use Rattle.members.specs.Finding.{axialRatioD, findingBy}
-use Rattle.storeys.specs.Storey.{Rules, orderly, wallShear, meetsWallShare, axialTotal, over, shearIfOver, overShear, someOver, storeyRisky}
+use Rattle.storeys.specs.Storey.{Rules, wallShear, meetsWallShare, axialTotal, over, shearIfOver, overShear, someOver, storeyRisky}
+use Rattle.comparison.specs.Orderly.{orderly}
 use Rattle.comparison.specs.Pairing.{EveryPair}
 use Rattle.comparison.specs.Demand3.{MemberPairs, AtLeastAsSevere}
 use Rattle.comparison.proofs.Tests.{never, and-carried, or-carried, excess-carried}

@@ -63,8 +63,7 @@ buildingRiskyIn (JudgedBuilding f) = f .risky
 buildingRiskyIn (RefusedBuilding n) = false
 
 abbrev pub Over : Rules → Survey → StoreyMembers → Member → Type 0
-Over rules a f m =
-    overIn (answerBy (rules .limits) (knowledgeOf a) (meetsWallShare (f .storey .shear) (f .members)) m) ≡ true
+Over rules a f m = overIn (answerBy (rules .limits) (knowledgeOf a) (meetsWallShare (f .storey .shear) (f .members)) m) ≡ true
 
 abbrev pub Risky : Rules → Survey → StoreyMembers → Type 0
 Risky rules a f = riskyIn (storeyAnswerBy rules (knowledgeOf a) (f .storey) (f .members)) ≡ true

@@ -15,8 +15,9 @@ use Rattle.reading.specs.Survey.{Outcome, accepted, refused, survey}
 use Rattle.reading.specs.Answer.{Told, told, storeysTold, storeysAfter, membersAfter}
 use Rattle.report.specs.declared.ReportAnswer.{ReportAnswer}
 use Rattle.columns.specs.Line.{atFront, putLength}
-use Rattle.report.specs.Sheet.{sheet, refusalLine, reportFault, reportAnswer, bufferAfter}
-use Rattle.records.specs.First.{every}
+use Rattle.report.specs.Sheet.{sheet, refusalLine, reportFault, reportAnswer, returnedReport, reportReturned, bufferAfter}
+use Rattle.report.proofs.Returned.{report-answer-is}
+use Rattle.records.specs.First.{everyBelow}
 use Rattle.records.specs.Records.{headerFault}
 use Rattle.records.specs.Totals.{total}
 use Rattle.storeys.specs.Building.{buildingFault, countsFault}
@@ -68,7 +69,7 @@ taken-length n xs h = simp length-take (omega (arith, h))
 
 -- the report call writes nothing of a blank header
 blank-refused : (room : ℕ) → eqb (reportFault blank [] [] room) 0 ≡ false
-unfolding reportFault buildingFault countsFault headerFault every total
+unfolding reportFault buildingFault countsFault headerFault everyBelow total
 blank-refused room = refl
 
 kept-of-blank : (out : List ℕ) → bufferAfter blank [] [] out ≡ out
@@ -120,9 +121,9 @@ ends-of (accepted h ss ms) out a q = accepted-ends h ss ms out a (eqb (reportFau
 ends-of (refused n line) out a q = rw (kept-of-blank out) (record { size = refl; bytes = refl })
 
 pub ends : (o : Outcome) (t : Told) (h : Header) (ss : List Storey) (ms : List Member) (out filled last : List ℕ) (a : ReportAnswer) (z : ℕ) → t ≡ told o → h ≡ headerTold t → ss ≡ storeysIn o → ms ≡ membersIn o
-    → a ≡ reportAnswer h ss ms (length out) → filled ≡ bufferAfter h ss ms out → z ≡ lengthTold t a (length filled) → last ≡ bytesTold t a filled → Ends o out z last
+    → returnedReport a ≡ reportReturned h ss ms (length out) → filled ≡ bufferAfter h ss ms out → z ≡ lengthTold t a (length filled) → last ≡ bytesTold t a filled → Ends o out z last
 ends o t h ss ms out filled last a z et eh es em ea ef ez el =
-    rw (ez, el, ef, ea, eh, es, em, et) (ends-of o out (reportAnswer (headerTold (told o)) (storeysIn o) (membersIn o) (length out)) refl)
+    rw (ez, el, ef, report-answer-is a (reportAnswer h ss ms (length out)) ea, eh, es, em, et) (ends-of o out (reportAnswer (headerTold (told o)) (storeysIn o) (membersIn o) (length out)) refl)
 
 -- "a longer input prints `E` with 8 and 0"
 pub too-long : (input : List ℕ) (room : ℕ) → inputMost < length input → refusalLine 8 0 ≡ printed input room

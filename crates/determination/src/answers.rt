@@ -4,7 +4,6 @@ ghost use lib.ListN.{length};
 ghost use Rattle.reading.specs.Answer.{tells};
 ghost use Rattle.records.specs.Records.{storeyBy, memberBy};
 ghost use Rattle.determination.specs.Answers.{headerTold, membersTold, lengthBy, bytesBy, lengthTold, bytesTold};
-use reading::refusal::number;
 use reading::survey::ReadAnswer;
 use reading::survey::Reading;
 use records::Header;
@@ -78,6 +77,6 @@ pub(crate) fn finish(out: &mut [u8], r: Reading, a: ReportJudgment) -> usize
     let answer = r.answer;
     match answer {
         ReadAnswer::Accepted { .. } => finish_report(out, a),
-        ReadAnswer::Refused { refusal, line } => write_refusal(out, number(refusal), line),
+        ReadAnswer::Refused { refusal, line } => write_refusal(out, refusal, line),
     }
 }

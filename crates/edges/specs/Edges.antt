@@ -5,7 +5,7 @@ use mathlib.Core.List.{List, [], _∷_, map}
 use mathlib.Core.Path.{_≡_}
 use lib.Dec.{eqb}
 use lib.ListN.{length, getD, take}
-use Rattle.records.specs.First.{pick, every, first}
+use Rattle.records.specs.First.{pick, everyBelow, first}
 use Rattle.records.specs.Records.{zeroForce}
 use Rattle.records.specs.Totals.{listed}
 use Rattle.records.specs.declared.Header.{Header}

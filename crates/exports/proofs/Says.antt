@@ -17,8 +17,7 @@ use Rattle.records.proofs.Structs.{member, storey}
 use Rattle.records.specs.Records.{headerBy, storeyBy}
 use Rattle.storeys.specs.Storey.{storeyReturned}
 use Rattle.report.specs.Sheet.{reportReturned, bufferAfter}
-use Rattle.exports.specs.Words.{words as wordsOf, refusalTold, handed, ten, BuildingWritten}
-use Rattle.columns.specs.Line.{atFront}
+use Rattle.exports.specs.Words.{readingCount, storeyCount, reportCount, ifRoom, given, outAfter, readingReturned, BuildingGiven, handed}
 
 abbrev pub bytes : RattleType
 bytes = rtF (fInt w8)
@@ -30,10 +29,10 @@ abbrev pub llunareth-read : Plain {n = 4} (pShrS bytes 0 tt ∷ pMutS (R storey)
 llunareth-read = record {
   requires = λ κs a. [];
   ensures = λ κs a z e.
-      (z ≡ refusalTold (told (survey (a .0 .now) (length (a .1 .0 .now)) (length (a .1 .1 .0 .now)))))
-      ∷ (e .1 .1 .1 .0 .now ≡ atFront (wordsOf (told (survey (a .0 .now) (length (a .1 .0 .now)) (length (a .1 .1 .0 .now))))) (a .1 .1 .1 .0 .now))
-      ∷ (e .1 .0 .now ≡ storeysAfter (survey (a .0 .now) (length (a .1 .0 .now)) (length (a .1 .1 .0 .now))) (a .1 .0 .now))
-      ∷ (e .1 .1 .0 .now ≡ membersAfter (survey (a .0 .now) (length (a .1 .0 .now)) (length (a .1 .1 .0 .now))) (a .1 .1 .0 .now))
+      (z ≡ given readingCount (readingReturned (told (survey (a .0 .now) (length (a .1 .0 .now)) (length (a .1 .1 .0 .now))))) (a .1 .1 .1 .0 .now))
+      ∷ (e .1 .1 .1 .0 .now ≡ outAfter readingCount (readingReturned (told (survey (a .0 .now) (length (a .1 .0 .now)) (length (a .1 .1 .0 .now))))) (a .1 .1 .1 .0 .now))
+      ∷ (e .1 .0 .now ≡ ifRoom readingCount (a .1 .1 .1 .0 .now) (storeysAfter (survey (a .0 .now) (length (a .1 .0 .now)) (length (a .1 .1 .0 .now))) (a .1 .0 .now)) (a .1 .0 .now))
+      ∷ (e .1 .1 .0 .now ≡ ifRoom readingCount (a .1 .1 .1 .0 .now) (membersAfter (survey (a .0 .now) (length (a .1 .0 .now)) (length (a .1 .1 .0 .now))) (a .1 .1 .0 .now)) (a .1 .1 .0 .now))
       ∷ [];
 }
 
@@ -41,23 +40,24 @@ abbrev pub llunareth-judge-storey : Plain {n = 3} (pNum w64 ∷ pShrS words 0 tt
 llunareth-judge-storey = record {
   requires = λ κs a. [];
   ensures = λ κs a z e.
-      (z ≡ storeyReturned (a .0) (storeyBy (handed (a .1 .0 .now))) (a .1 .1 .0 .now) .refusal)
-      ∷ (e .1 .1 .1 .0 .now ≡ atFront (ten (storeyReturned (a .0) (storeyBy (handed (a .1 .0 .now))) (a .1 .1 .0 .now))) (a .1 .1 .1 .0 .now)) ∷ [];
+      (z ≡ given storeyCount (storeyReturned (a .0) (storeyBy (handed (a .1 .0 .now))) (a .1 .1 .0 .now)) (a .1 .1 .1 .0 .now))
+      ∷ (e .1 .1 .1 .0 .now ≡ outAfter storeyCount (storeyReturned (a .0) (storeyBy (handed (a .1 .0 .now))) (a .1 .1 .0 .now)) (a .1 .1 .1 .0 .now))
+      ∷ [];
 }
 
 abbrev pub llunareth-judge-building : Plain {n = 4} (pShrS words 0 tt ∷ pShrS (R storey) 1 tt ∷ pShrS (R member) 2 tt ∷ pMutS words 3 tt ∷ []) (rNum w64)
 llunareth-judge-building = record {
   requires = λ κs a. [];
   ensures = λ κs a z e.
-      BuildingWritten (headerBy (handed (a .0 .now))) (a .1 .0 .now) (a .1 .1 .0 .now) z (a .1 .1 .1 .0 .now) (e .1 .1 .1 .0 .now) ∷ [];
+      BuildingGiven (headerBy (handed (a .0 .now))) (a .1 .0 .now) (a .1 .1 .0 .now) (a .1 .1 .1 .0 .now) z (e .1 .1 .1 .0 .now) ∷ [];
 }
 
 abbrev pub llunareth-report : Plain {n = 5} (pShrS words 0 tt ∷ pShrS (R storey) 1 tt ∷ pShrS (R member) 2 tt ∷ pMutS bytes 3 tt ∷ pMutS words 4 tt ∷ []) (rNum w64)
 llunareth-report = record {
   requires = λ κs a. [];
   ensures = λ κs a z e.
-      (z ≡ reportReturned (headerBy (handed (a .0 .now))) (a .1 .0 .now) (a .1 .1 .0 .now) (length (a .1 .1 .1 .0 .now)) .refusal)
-      ∷ (e .1 .1 .1 .1 .0 .now ≡ atFront (ten (reportReturned (headerBy (handed (a .0 .now))) (a .1 .0 .now) (a .1 .1 .0 .now) (length (a .1 .1 .1 .0 .now)))) (a .1 .1 .1 .1 .0 .now))
-      ∷ (e .1 .1 .1 .0 .now ≡ bufferAfter (headerBy (handed (a .0 .now))) (a .1 .0 .now) (a .1 .1 .0 .now) (a .1 .1 .1 .0 .now))
+      (z ≡ given reportCount (reportReturned (headerBy (handed (a .0 .now))) (a .1 .0 .now) (a .1 .1 .0 .now) (length (a .1 .1 .1 .0 .now))) (a .1 .1 .1 .1 .0 .now))
+      ∷ (e .1 .1 .1 .1 .0 .now ≡ outAfter reportCount (reportReturned (headerBy (handed (a .0 .now))) (a .1 .0 .now) (a .1 .1 .0 .now) (length (a .1 .1 .1 .0 .now))) (a .1 .1 .1 .1 .0 .now))
+      ∷ (e .1 .1 .1 .0 .now ≡ ifRoom reportCount (a .1 .1 .1 .1 .0 .now) (bufferAfter (headerBy (handed (a .0 .now))) (a .1 .0 .now) (a .1 .1 .0 .now) (a .1 .1 .1 .0 .now)) (a .1 .1 .1 .0 .now))
       ∷ [];
 }

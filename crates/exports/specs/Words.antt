@@ -1,8 +1,10 @@
 -- The answers of the calls as numbers, for other languages.
-use Prim.Native.Nat.{ℕ}
-use mathlib.Core.List.{List, [], _∷_, _++_}
+use Prim.Native.Nat.{ℕ, _+_, _*_, _<_, _≤_}
+use mathlib.Core.List.{List, [], _∷_}
 use mathlib.Core.Path.{_≡_}
-use lib.ListN.{take, getD}
+use lib.Dec.{leb}
+use lib.ListN.{length, getD}
+use Rattle.records.specs.First.{pick}
 use Rattle.members.specs.Finding.{Returned}
 use Rattle.reading.specs.Answer.{Told, filled, refusal}
 use Rattle.records.specs.declared.Header.{Header}
@@ -13,30 +15,65 @@ use Rattle.storeys.specs.Storey.{publishedRules}
 use Rattle.columns.specs.Line.{atFront}
 use Rattle.storeys.specs.Building.{Answers, returnedBuilding}
 
--- refusal and line, 0 and 0 where accepted; the header's six fields; the numbers of storey and member rows filled
-abbrev pub words : Told → List ℕ
-words (filled h storeys members) =
-    0
-    ∷ 0
-    ∷ h .knowledge
-    ∷ h .height
-    ∷ h .storeys
-    ∷ h .tilt1
-    ∷ h .tilt2
-    ∷ h .count
-    ∷ storeys
-    ∷ members
-    ∷ []
-words (refusal number line) = number ∷ line ∷ 0 ∷ 0 ∷ 0 ∷ 0 ∷ 0 ∷ 0 ∷ 0 ∷ 0 ∷ []
+-- the form of the calls: a change of one raises it
+abbrev pub version : ℕ
+version = 2
 
--- the refusal, 0 where accepted
-abbrev pub refusalTold : Told → ℕ
-refusalTold (filled h storeys members) = 0
-refusalTold (refusal number line) = number
+-- how many values each call puts to the front of `out`
+abbrev pub readingCount : ℕ
+readingCount = 8
 
--- an answer on records as ten numbers: refusal and line, the values, and zeros
-abbrev pub ten : Returned → List ℕ
-ten r = r .refusal ∷ r .line ∷ take 8 (r .values ++ (0 ∷ 0 ∷ 0 ∷ 0 ∷ 0 ∷ 0 ∷ 0 ∷ 0 ∷ []))
+abbrev pub memberCount : ℕ
+memberCount = 7
+
+abbrev pub storeyCount : ℕ
+storeyCount = 6
+
+abbrev pub buildingCount : ℕ
+buildingCount = 3
+
+abbrev pub reportCount : ℕ
+reportCount = 1
+
+-- refusal and line in one number
+abbrev pub packing : ℕ → ℕ → ℕ
+packing number line = number + 256 * line
+
+-- of an answer; 0 where accepted
+abbrev pub packed : Returned → ℕ
+packed r = packing (r .refusal) (r .line)
+
+-- given where `out` is too short for the values; no refusal is packed as this
+abbrev pub short : ℕ
+short = 255
+
+-- by the room in `out` for so many values: what is given or left with it, and without
+abbrev pub ifRoom : {A : Type 0} → ℕ → List ℕ → A → A → A
+ifRoom count out with without = pick (leb count (length out)) with without
+
+-- what a call gives
+abbrev pub given : ℕ → Returned → List ℕ → ℕ
+given count r out = ifRoom count out (packed r) short
+
+-- what it leaves in `out`: "All lent memory is unchanged by a refusal; an accepted call changes only the rows or bytes it fills, from the front"
+abbrev pub outAfter : ℕ → Returned → List ℕ → List ℕ
+outAfter count r out = ifRoom count out (atFront (r .values) out) out
+
+-- what reading returns: the header's six fields and the numbers of storey and member rows filled; or the refusal with its line
+abbrev pub readingReturned : Told → Returned
+readingReturned (filled h storeys members) =
+    record {
+      refusal = 0;
+      line = 0;
+      values = h .knowledge ∷ h .height ∷ h .storeys ∷ h .tilt1 ∷ h .tilt2 ∷ h .count ∷ storeys ∷ members ∷ [];
+    }
+readingReturned (refusal number line) = record { refusal = number; line = line; values = [] }
+
+-- what the call on a building gives and leaves in `out`, with room there by an answer that document 01 gives
+pub data BuildingGiven (h : Header) (ss : List Storey) (ms : List Member) (before : List ℕ) (result : ℕ) (after : List ℕ) : Type 0 where
+  no-room : length before < buildingCount → result ≡ short → after ≡ before → BuildingGiven h ss ms before result after
+  room : buildingCount ≤ length before → (answer : BuildingAnswer) → Answers publishedRules h ss ms answer
+      → result ≡ packed (returnedBuilding answer) → after ≡ atFront (returnedBuilding answer .values) before → BuildingGiven h ss ms before result after
 
 -- "No field may be missing": where a record is handed in as numbers, one that is not given stands as a number outside every range
 abbrev pub missing : ℕ
@@ -45,10 +82,3 @@ missing = 18_446_744_073_709_551_615
 -- number j, counted from 0, of a record handed in
 abbrev pub handed : List ℕ → ℕ → ℕ
 handed values j = getD values j missing
-
--- what the call on a building gives and leaves in a buffer: the refusal and the ten numbers of an answer that document 01 gives
-pub record BuildingWritten (h : Header) (ss : List Storey) (ms : List Member) (result : ℕ) (before after : List ℕ) : Type 0 where
-  pub answer : BuildingAnswer
-  pub given : Answers publishedRules h ss ms answer
-  pub returned : result ≡ returnedBuilding answer .refusal
-  pub written : after ≡ atFront (ten (returnedBuilding answer)) before

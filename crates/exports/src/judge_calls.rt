@@ -5,9 +5,10 @@ ghost use Rattle.records.specs.Records.{headerBy, memberBy, storeyBy};
 ghost use Rattle.storeys.specs.Storey.{returnedStorey, storeyReturned};
 ghost use Rattle.members.specs.Finding.{returned, memberReturned};
 ghost use Rattle.storeys.specs.Building.{returnedBuilding};
-ghost use Rattle.exports.specs.Words.{handed, ten, BuildingWritten};
+ghost use Rattle.exports.specs.Words.{handed, memberCount, storeyCount, packed, given, outAfter, BuildingGiven};
 ghost use Rattle.columns.specs.Line.{atFront};
-use crate::words::put_ten;
+use crate::words::SHORT;
+use crate::words::put_words;
 use crate::words::values_of;
 use members::finding::MemberAnswer;
 use members::finding::flag;
@@ -25,16 +26,28 @@ use storeys::StoreyJudgment;
 use storeys::building::judge_building;
 use storeys::storey::judge_storey;
 
-// Refusal, line, class, m, its limit, rotation, its limit, over, n_D.
-fn member_words(a: MemberAnswer) -> [u64; 10]
-    ensures { λ r. ⌜ r ≡ ten (returned a) ⌝ }
+const MEMBER_COUNT: usize = 7;
+
+const STOREY_COUNT: usize = 6;
+
+const BUILDING_COUNT: usize = 3;
+
+pub(crate) fn member_given(values: &[u64]) -> Member
+    ensures { λ r. ⌜ r ≡ memberBy (handed (now (values .entry))) ⌝ }
+{
+    let vs = values_of(values);
+    member_of(vs)
+}
+
+// Puts class, m, its limit, rotation, its limit, over, n_D. Gives the refusal.
+fn put_member(out: &mut [u64], a: MemberAnswer) -> u64
+    ensures { λ n. ⌜ n ≡ packed (returned a) ⌝ }
+    ensures { λ _. ⌜ now (out .exit) ≡ atFront (returned a .values) (now (out .entry)) ⌝ }
 {
     match a {
         MemberAnswer::Judged(f) => {
             let class = f.class;
-            [
-                0,
-                0,
+            let values = [
                 class.code(),
                 f.m.0,
                 f.m_limit.0,
@@ -42,58 +55,56 @@ fn member_words(a: MemberAnswer) -> [u64; 10]
                 f.rotation_limit.0,
                 flag(f.over),
                 f.nd.0,
-                0,
-            ]
+            ];
+            put_words(out, &values);
+            0
         }
-        MemberAnswer::Refused(n) => [n, 0, 0, 0, 0, 0, 0, 0, 0, 0],
+        MemberAnswer::Refused(n) => n,
     }
 }
 
-// A member, given by its 26 numbers, judged with k and whether its storey meets the 0.40 condition. Each call gives the refusal, 0 where there is none.
+// A member, given by its 26 numbers, judged with k and whether its storey meets the 0.40 condition.
 #[no_mangle]
 pub extern "C" fn llunareth_judge_member(k: u64, met: bool, values: &[u64], out: &mut [u64]) -> u64
-    ensures { λ r. ⌜ r ≡ memberReturned k met (memberBy (handed (now (values .entry)))) .refusal ⌝ }
-    ensures { λ _. ⌜ now (out .exit) ≡ atFront (ten (memberReturned k met (memberBy (handed (now (values .entry)))))) (now (out .entry)) ⌝ }
+    ensures { λ r. ⌜ r ≡ given memberCount (memberReturned k met (memberBy (handed (now (values .entry))))) (now (out .entry)) ⌝ }
+    ensures { λ _. ⌜ now (out .exit) ≡ outAfter memberCount (memberReturned k met (memberBy (handed (now (values .entry))))) (now (out .entry)) ⌝ }
 {
-    let vs = values_of(values);
-    let a = judge_member(k, met, member_of(vs));
-    put_ten(out, member_words(a))
+    if out.len() < MEMBER_COUNT {
+        return SHORT;
+    }
+    let m = member_given(values);
+    let a = judge_member(k, met, m);
+    put_member(out, a)
 }
 
-fn storey_given(values: &[u64]) -> Storey
+pub(crate) fn storey_given(values: &[u64]) -> Storey
     ensures { λ r. ⌜ r ≡ storeyBy (handed (now (values .entry))) ⌝ }
 {
     let vs = values_of(values);
     storey_of(vs)
 }
 
-// Refusal, line, Σ, c, P, W, Risky, and whether the 0.40 condition is met.
-fn storey_words(r: StoreyJudgment) -> [u64; 10]
-    ensures { λ w. ⌜ w ≡ ten (returnedStorey (r .answer)) ⌝ }
+// Puts Σ, c, P, W, Risky, and whether the 0.40 condition is met. Gives the refusal.
+fn put_storey(out: &mut [u64], r: StoreyJudgment) -> u64
+    ensures { λ n. ⌜ n ≡ packed (returnedStorey (r .answer)) ⌝ }
+    ensures { λ _. ⌜ now (out .exit) ≡ atFront (returnedStorey (r .answer) .values) (now (out .entry)) ⌝ }
 {
     let a = r.answer;
     match a {
-        StoreyAnswer::Judged(f) => [
-            0,
-            0,
-            f.axial_total,
-            f.members,
-            f.over_shear,
-            f.shear,
-            flag(f.risky),
-            flag(f.walls_suffice),
-            0,
-            0,
-        ],
-        StoreyAnswer::Refused(n) => [n, 0, 0, 0, 0, 0, 0, 0, 0, 0],
+        StoreyAnswer::Judged(f) => {
+            let values = [
+                f.axial_total,
+                f.members,
+                f.over_shear,
+                f.shear,
+                flag(f.risky),
+                flag(f.walls_suffice),
+            ];
+            put_words(out, &values);
+            0
+        }
+        StoreyAnswer::Refused(n) => n,
     }
-}
-
-fn put_storey(out: &mut [u64], r: StoreyJudgment) -> u64
-    ensures { λ n. ⌜ n ≡ returnedStorey (r .answer) .refusal ⌝ }
-    ensures { λ _. ⌜ now (out .exit) ≡ atFront (ten (returnedStorey (r .answer))) (now (out .entry)) ⌝ }
-{
-    put_ten(out, storey_words(r))
 }
 
 // A storey, given by its three numbers, and its members, judged with k.
@@ -104,9 +115,12 @@ pub extern "C" fn llunareth_judge_storey(
     members: &[Member],
     out: &mut [u64],
 ) -> u64
-    ensures { λ r. ⌜ r ≡ storeyReturned k (storeyBy (handed (now (storey .entry)))) (now (members .entry)) .refusal ⌝ }
-    ensures { λ _. ⌜ now (out .exit) ≡ atFront (ten (storeyReturned k (storeyBy (handed (now (storey .entry)))) (now (members .entry)))) (now (out .entry)) ⌝ }
+    ensures { λ r. ⌜ r ≡ given storeyCount (storeyReturned k (storeyBy (handed (now (storey .entry)))) (now (members .entry))) (now (out .entry)) ⌝ }
+    ensures { λ _. ⌜ now (out .exit) ≡ outAfter storeyCount (storeyReturned k (storeyBy (handed (now (storey .entry)))) (now (members .entry))) (now (out .entry)) ⌝ }
 {
+    if out.len() < STOREY_COUNT {
+        return SHORT;
+    }
     let s = storey_given(storey);
     let r = judge_storey(k, s, members);
     put_storey(out, r)
@@ -119,22 +133,20 @@ pub(crate) fn header_given(values: &[u64]) -> Header
     header_of(vs)
 }
 
-// Refusal, line, tilted, Risky, and a Risky storey's place.
-fn building_words(r: BuildingJudgment) -> [u64; 10]
-    ensures { λ w. ⌜ w ≡ ten (returnedBuilding (r .answer)) ⌝ }
+// Puts tilted, Risky, and a Risky storey's place. Gives the refusal.
+fn put_building(out: &mut [u64], r: BuildingJudgment) -> u64
+    ensures { λ n. ⌜ n ≡ packed (returnedBuilding (r .answer)) ⌝ }
+    ensures { λ _. ⌜ now (out .exit) ≡ atFront (returnedBuilding (r .answer) .values) (now (out .entry)) ⌝ }
 {
     let a = r.answer;
     match a {
-        BuildingAnswer::Judged(f) => [0, 0, flag(f.tilted), flag(f.risky), f.place, 0, 0, 0, 0, 0],
-        BuildingAnswer::Refused(n) => [n, 0, 0, 0, 0, 0, 0, 0, 0, 0],
+        BuildingAnswer::Judged(f) => {
+            let values = [flag(f.tilted), flag(f.risky), f.place];
+            put_words(out, &values);
+            0
+        }
+        BuildingAnswer::Refused(n) => n,
     }
-}
-
-fn put_building(out: &mut [u64], r: BuildingJudgment) -> u64
-    ensures { λ n. ⌜ n ≡ returnedBuilding (r .answer) .refusal ⌝ }
-    ensures { λ _. ⌜ now (out .exit) ≡ atFront (ten (returnedBuilding (r .answer))) (now (out .entry)) ⌝ }
-{
-    put_ten(out, building_words(r))
 }
 
 // A building: its header, given by its six numbers, its storeys, and the members of all of them in survey order.
@@ -145,8 +157,11 @@ pub extern "C" fn llunareth_judge_building(
     members: &[Member],
     out: &mut [u64],
 ) -> u64
-    ensures { λ r. ⌜ BuildingWritten (headerBy (handed (now (header .entry)))) (now (storeys .entry)) (now (members .entry)) r (now (out .entry)) (now (out .exit)) ⌝ }
+    ensures { λ r. ⌜ BuildingGiven (headerBy (handed (now (header .entry)))) (now (storeys .entry)) (now (members .entry)) (now (out .entry)) r (now (out .exit)) ⌝ }
 {
+    if out.len() < BUILDING_COUNT {
+        return SHORT;
+    }
     let h = header_given(header);
     let r = judge_building(h, storeys, members);
     put_building(out, r)

@@ -1,6 +1,7 @@
-// Calls for programs in other languages, over numbers and slices; the answers of reading, judging and the report are ten numbers.
+// Calls for programs in other languages, over numbers and slices. A call with an `out` gives refusal and line in one number and, accepted, puts its values to the front of `out`.
 pub mod judge_calls;
 pub mod reading_call;
 pub mod record_checks;
 pub mod report_calls;
+pub mod version;
 pub mod words;

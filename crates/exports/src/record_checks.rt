@@ -1,30 +1,32 @@
 // The checks of one record, given by its numbers in the order of its line, N_D and N_K counted from -20,000,000; a number that is not given is
-// outside every range.
+// outside every range. Each gives the refusal, 0 where there is none.
 ghost use mathlib.Core.Path.{_≡_};
 ghost use Rattle.records.specs.Records.{headerFault, storeyFault, memberFault, headerBy, storeyBy, memberBy};
 ghost use Rattle.exports.specs.Words.{handed};
-use crate::words::values_of;
+use crate::judge_calls::header_given;
+use crate::judge_calls::member_given;
+use crate::judge_calls::storey_given;
+use records::ranges::header_fault;
+use records::ranges::member_fault;
+use records::ranges::storey_fault;
 
 #[no_mangle]
 pub extern "C" fn llunareth_header_fault(values: &[u64]) -> u64
     ensures { λ r. ⌜ r ≡ headerFault (headerBy (handed (now (values .entry)))) ⌝ }
 {
-    let vs = values_of(values);
-    records::ranges::header_fault(records::numbers::header_of(vs))
+    header_fault(header_given(values))
 }
 
 #[no_mangle]
 pub extern "C" fn llunareth_storey_fault(values: &[u64]) -> u64
     ensures { λ r. ⌜ r ≡ storeyFault (storeyBy (handed (now (values .entry)))) ⌝ }
 {
-    let vs = values_of(values);
-    records::ranges::storey_fault(records::numbers::storey_of(vs))
+    storey_fault(storey_given(values))
 }
 
 #[no_mangle]
 pub extern "C" fn llunareth_member_fault(values: &[u64]) -> u64
     ensures { λ r. ⌜ r ≡ memberFault (memberBy (handed (now (values .entry)))) ⌝ }
 {
-    let vs = values_of(values);
-    records::ranges::member_fault(records::numbers::member_of(vs))
+    member_fault(member_given(values))
 }

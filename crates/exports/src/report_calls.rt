@@ -5,9 +5,10 @@ ghost use Rattle.records.specs.Records.{headerBy};
 ghost use Rattle.columns.specs.Line.{atFront, putLength};
 ghost use Rattle.report.specs.Sheet.{returnedReport, reportReturned, bufferAfter};
 ghost use Rattle.determination.specs.Determination.{printed};
-ghost use Rattle.exports.specs.Words.{handed, ten};
+ghost use Rattle.exports.specs.Words.{handed, reportCount, packed, ifRoom, given, outAfter};
 use crate::judge_calls::header_given;
-use crate::words::put_ten;
+use crate::words::SHORT;
+use crate::words::put_words;
 use determination::determine;
 use records::Member;
 use records::Storey;
@@ -15,25 +16,25 @@ use report::ReportAnswer;
 use report::ReportJudgment;
 use report::sheet::write_report;
 
-// Refusal, line, and the sheet's length.
-fn report_words(r: ReportJudgment) -> [u64; 10]
-    ensures { λ w. ⌜ w ≡ ten (returnedReport (r .answer)) ⌝ }
+const REPORT_COUNT: usize = 1;
+
+// Puts the sheet's length. Gives the refusal.
+fn put_report(out: &mut [u64], r: ReportJudgment) -> u64
+    ensures { λ n. ⌜ n ≡ packed (returnedReport (r .answer)) ⌝ }
+    ensures { λ _. ⌜ now (out .exit) ≡ atFront (returnedReport (r .answer) .values) (now (out .entry)) ⌝ }
 {
     let a = r.answer;
     match a {
-        ReportAnswer::Written(n) => [0, 0, n as u64, 0, 0, 0, 0, 0, 0, 0],
-        ReportAnswer::Refused(n) => [n, 0, 0, 0, 0, 0, 0, 0, 0, 0],
+        ReportAnswer::Written(n) => {
+            let values = [n as u64];
+            put_words(out, &values);
+            0
+        }
+        ReportAnswer::Refused(n) => n,
     }
 }
 
-fn put_report(out: &mut [u64], r: ReportJudgment) -> u64
-    ensures { λ n. ⌜ n ≡ returnedReport (r .answer) .refusal ⌝ }
-    ensures { λ _. ⌜ now (out .exit) ≡ atFront (ten (returnedReport (r .answer))) (now (out .entry)) ⌝ }
-{
-    put_ten(out, report_words(r))
-}
-
-// The report of a building, given as for its judgment: the sheet from the front of the bytes. Gives the refusal, 0 where there is none.
+// The report of a building, given as for its judgment: the sheet from the front of the bytes.
 #[no_mangle]
 pub extern "C" fn llunareth_report(
     header: &[u64],
@@ -42,16 +43,19 @@ pub extern "C" fn llunareth_report(
     sheet: &mut [u8],
     out: &mut [u64],
 ) -> u64
-    ensures { λ r. ⌜ r ≡ reportReturned (headerBy (handed (now (header .entry)))) (now (storeys .entry)) (now (members .entry)) (length (now (sheet .entry))) .refusal ⌝ }
-    ensures { λ _. ⌜ now (out .exit) ≡ atFront (ten (reportReturned (headerBy (handed (now (header .entry)))) (now (storeys .entry)) (now (members .entry)) (length (now (sheet .entry))))) (now (out .entry)) ⌝ }
-    ensures { λ _. ⌜ now (sheet .exit) ≡ bufferAfter (headerBy (handed (now (header .entry)))) (now (storeys .entry)) (now (members .entry)) (now (sheet .entry)) ⌝ }
+    ensures { λ r. ⌜ r ≡ given reportCount (reportReturned (headerBy (handed (now (header .entry)))) (now (storeys .entry)) (now (members .entry)) (length (now (sheet .entry)))) (now (out .entry)) ⌝ }
+    ensures { λ _. ⌜ now (out .exit) ≡ outAfter reportCount (reportReturned (headerBy (handed (now (header .entry)))) (now (storeys .entry)) (now (members .entry)) (length (now (sheet .entry)))) (now (out .entry)) ⌝ }
+    ensures { λ _. ⌜ now (sheet .exit) ≡ ifRoom reportCount (now (out .entry)) (bufferAfter (headerBy (handed (now (header .entry)))) (now (storeys .entry)) (now (members .entry)) (now (sheet .entry))) (now (sheet .entry)) ⌝ }
 {
+    if out.len() < REPORT_COUNT {
+        return SHORT;
+    }
     let h = header_given(header);
     let r = write_report(h, storeys, members, sheet);
     put_report(out, r)
 }
 
-// What `determine` prints for a file, from the front of the bytes; gives its length, 0 where it does not fit.
+// What `determine` prints for a file, from the front of the bytes; gives its length, 0 where it does not fit. It has no refusal: the sheet or the `E` line is the answer.
 #[no_mangle]
 pub extern "C" fn llunareth_determine(input: &[u8], out: &mut [u8]) -> usize
     ensures { λ r. ⌜ r ≡ putLength (printed (now (input .entry)) (length (now (out .entry)))) (length (now (out .entry))) ⌝ }

@@ -1,24 +1,33 @@
-// The ten numbers of an answer.
+// Numbers handed in and put out.
 ghost use mathlib.Core.Path.{_≡_};
-ghost use Prim.Native.Nat.{ℕ, _<_};
+ghost use Prim.Native.Nat.{ℕ, _<_, _≤_};
 ghost use lib.ListN.{getD};
-ghost use Rattle.exports.specs.Words.{handed};
+ghost use Rattle.exports.specs.Words.{handed, packing};
 ghost use Rattle.columns.specs.Line.{atFront};
 
-// Writes ten numbers to the front of a buffer that holds them, and else nothing; gives the first.
-pub(crate) fn put_ten(out: &mut [u64], w: [u64; 10]) -> u64
-    ensures { λ r. ⌜ r ≡ getD w 0 0 ⌝ }
-    ensures { λ _. ⌜ now (out .exit) ≡ atFront w (now (out .entry)) ⌝ }
+// Given where `out` is too short for a call's values; no refusal is packed as this.
+pub(crate) const SHORT: u64 = 255;
+
+// A refusal and its line in one number. On records the line is 0, and the refusal stands for both.
+pub(crate) fn pack(refusal: u64, line: u64) -> u64
+    requires { ⌜ (refusal ≤ 10) × (line ≤ 65_536) ⌝ }
+    ensures { λ r. ⌜ r ≡ packing refusal line ⌝ }
 {
-    if out.len() < 10 {
-        return w[0];
+    refusal + 256 * line
+}
+
+// Writes numbers to the front of a buffer that holds them, and else nothing.
+pub(crate) fn put_words(out: &mut [u64], words: &[u64])
+    ensures { λ _. ⌜ now (out .exit) ≡ atFront (now (words .entry)) (now (out .entry)) ⌝ }
+{
+    if out.len() < words.len() {
+        return;
     }
     let mut i = 0;
-    while i < 10 {
-        out[i] = w[i];
+    while i < words.len() {
+        out[i] = words[i];
         i += 1;
     }
-    w[0]
 }
 
 // The first 26 numbers of a slice; a number that is not given is outside every range.

@@ -11,10 +11,10 @@ use lib.ListN.{length, take, drop, getD, set, length-set}
 use lib.Seq.{getD-set-same, getD-set-other}
 use borrow.Author.Count.{below-more}
 use borrow.Author.Tests.{leb-true, leb-false, le-leb, lt-leb}
-use Rattle.records.specs.First.{pick, every, first}
+use Rattle.records.specs.First.{pick, everyBelow, first}
 use Rattle.records.specs.Records.{Allowed, allows, never, ranges, fields, inRange}
 use Rattle.format.specs.Spelling.{fieldOf}
-use Rattle.format.specs.Field.{fieldStep, numberOf, nextOf, optionOf, holdsFields, FieldsHeld, FieldsOf}
+use Rattle.format.specs.Field.{fieldStep, numberOf, nextOf, optionOf, faultOf, holdsFields, FieldsHeld, FieldsOf}
 use Rattle.format.specs.Lines.{isForce, fieldAt, numberIn, isWritten, valueAt, faultIn, fieldFault, fieldsFault}
 use Rattle.format.specs.declared.cursor.Cursor.{Cursor}
 use Rattle.format.specs.declared.cursor.Field.{Field}
@@ -31,6 +31,10 @@ number-step none next = refl
 option-step : (o : Option ℕ) (next : ℕ) → optionOf (fieldStep o next) ≡ o
 option-step (some v) next = refl
 option-step none next = refl
+
+fault-step : (o : Option ℕ) (next : ℕ) (a : Allowed) → faultOf (fieldStep o next) a ≡ faultIn o a
+fault-step (some v) next a = refl
+fault-step none next a = refl
 
 next-step : (o : Option ℕ) (next : ℕ) → nextOf (fieldStep o next) .at ≡ next
 next-step (some v) next = refl
@@ -51,7 +55,7 @@ pub record Sofar (t : Tag) (s : List ℕ) (at n : ℕ) (values : List ℕ) (writ
   pub turn : j ≤ n
   pub size : length values ≡ 26
   pub place : c ≡ at + 1 + 8 * j
-  pub all-written : written ≡ every (writtenAt t s at) j
+  pub all-written : written ≡ everyBelow (writtenAt t s at) j
   pub held : (k : ℕ) → k < j → getD values k 0 ≡ valueAt t s at k
 
 module _ (t : Tag) (s : List ℕ) (at : ℕ) where
@@ -101,10 +105,10 @@ module _ (t : Tag) (s : List ℕ) (at : ℕ) where
   looks-first n e h =
       record { count = e; most = h; turn = omega arith; place = omega arith; clear = first-none 0 (λ r. r) (fieldFault t s at) }
 
-  module _ (n c j storeys x : ℕ) (so : Looked t s at n c j) (h : j < n) (f : Field) (e : f ≡ fieldStep (fieldOf (isForce t j) (take 8 (drop c s))) (c + 8)) (q : storeys ≡ valueAt t s at 2) (g : x ≡ faultIn (optionOf f) (getD (ranges t storeys) j never)) where
+  module _ (n c j storeys x : ℕ) (so : Looked t s at n c j) (h : j < n) (f : Field) (e : f ≡ fieldStep (fieldOf (isForce t j) (take 8 (drop c s))) (c + 8)) (q : storeys ≡ valueAt t s at 2) (g : x ≡ faultOf f (getD (ranges t storeys) j never)) where
     fault-is : x ≡ fieldFault t s at j
     unfolding fieldFault
-    fault-is = g ∙ rw (q, step-is t s at c j f (so .place) e, option-step (fieldAt t s at j) (c + 8))
+    fault-is = g ∙ rw (q, step-is t s at c j f (so .place) e) (fault-step (fieldAt t s at j) (c + 8) _)
 
     next-is : first 0 (λ r. r) (fieldFault t s at) (j + 1) ≡ x
     next-is = first-next 0 (λ r. r) (fieldFault t s at) j (so .clear) ∙ sym fault-is
@@ -132,7 +136,7 @@ three-fields B = omega arith
 three-fields S = omega arith
 three-fields M = omega arith
 
-pub all-clear : (t : Tag) (s : List ℕ) (at : ℕ) (vs : List ℕ) → ((j : ℕ) → j < fields t → getD vs j 0 ≡ valueAt t s at j) → every (inRange t vs) (fields t) ≡ true → every (writtenAt t s at) (fields t) ≡ true → fieldsFault t s at ≡ 0
+pub all-clear : (t : Tag) (s : List ℕ) (at : ℕ) (vs : List ℕ) → ((j : ℕ) → j < fields t → getD vs j 0 ≡ valueAt t s at j) → everyBelow (inRange t vs) (fields t) ≡ true → everyBelow (writtenAt t s at) (fields t) ≡ true → fieldsFault t s at ≡ 0
 unfolding fieldFault
 all-clear t s at vs held r w =
     first-zero 0 (λ r. r) (fieldFault t s at) (fields t) refl

@@ -15,7 +15,7 @@ use Rattle.records.specs.First.{pick}
 use Rattle.format.specs.Field.{goesOn, fieldStep}
 use Rattle.records.specs.Records.{zeroForce}
 use Rattle.format.specs.declared.cursor.Cursor.{Cursor}
-use Rattle.format.specs.declared.cursor.Field.the-variants.{Number, Miswritten}
+use Rattle.format.specs.declared.cursor.Field.the-variants.{Number, Refused}
 use Rattle.format.specs.Spelling.{column, spelled, same, pushed, value, written, minusOf, fieldOf}
 use Rattle.records.proofs.Below.{and-left, and-right}
 use Rattle.format.proofs.Columns.{part-cons, blank-digits}
@@ -206,9 +206,9 @@ plain-force : (q : Bool) (t : List ℕ) (n next : ℕ) (c : Cursor) → Number n
 plain-force true t n next c e = cc
 plain-force false t n next c e = let z : _≡_ {A = ℕ} 0 1 = cc in absurd (omega arith)
 
-minus-force : (q : Bool) (t : List ℕ) (next : ℕ) (c : Cursor) → Miswritten c ≡ fieldStep (pick q (some (value 0 t)) none) next → minusOf t ≡ pick q (some (zeroForce + value 0 t)) (minusOf t)
-minus-force true t next c e = let z : _≡_ {A = ℕ} 0 1 = cc in absurd (omega arith)
-minus-force false t next c e = refl
+minus-force : (q : Bool) (t : List ℕ) (next r : ℕ) (c : Cursor) → Refused r c ≡ fieldStep (pick q (some (value 0 t)) none) next → minusOf t ≡ pick q (some (zeroForce + value 0 t)) (minusOf t)
+minus-force true t next r c e = let z : _≡_ {A = ℕ} 0 1 = cc in absurd (omega arith)
+minus-force false t next r c e = refl
 
 module _ (t : List ℕ) (next : ℕ) (c : Cursor) where
   pub force-small : (n : ℕ) → Number n c ≡ fieldStep (fieldOf false t) next → n ≤ 9_999_999
@@ -219,6 +219,6 @@ module _ (t : List ℕ) (next : ℕ) (c : Cursor) where
   unfolding fieldOf
   force-number n e = plain-force (written 32 t) t n next c e
 
-  pub force-else : Miswritten c ≡ fieldStep (fieldOf false t) next → minusOf t ≡ fieldOf true t
+  pub force-else : (r : ℕ) → Refused r c ≡ fieldStep (fieldOf false t) next → minusOf t ≡ fieldOf true t
   unfolding fieldOf
-  force-else e = minus-force (written 32 t) t next c e
+  force-else r e = minus-force (written 32 t) t next r c e

@@ -10,7 +10,7 @@ use lib.Dec.{leb, ltb, eqb}
 use lib.ListN.{length, take, drop, getD, length-append}
 use lib.Seq.{drop-drop, take-at, drop-append-add}
 use borrow.Author.Tests.{leb-true, le-leb, eqb-true, eq-eqb, ne-eqb, lt-ltb}
-use Rattle.records.specs.First.{pick, every}
+use Rattle.records.specs.First.{pick, everyBelow}
 use Rattle.records.specs.Records.{Allowed, between, either, allows, never, zeroForce, ranges, fields, inRange, headerValues, storeyValues, memberValues, headerFault, storeyFault, memberFault}
 use Rattle.format.specs.Spelling.{column, spelled}
 use Rattle.format.specs.Lines.{tagByte, lineEnd, shaped, isForce, fieldAt, numberIn, valueAt, fieldFault, headerAt, storeyAt, memberAt}
@@ -50,8 +50,8 @@ within-spells (either a b) false v w e =
     one-of (eqb v a) (eqb v b) v a b refl refl e (leb-true a 9_999_999 (and-left (leb a 9_999_999) _ w)) (leb-true b 9_999_999 (and-right (leb a 9_999_999) _ w))
 within-spells (either a b) true v w e = let z : _≡_ {A = ℕ} 0 1 = cc in absurd (omega arith)
 
-all-within : (tag : Tag) (vs : List ℕ) → Ranged tag vs → every (λ j. within (getD (ranges tag (getD vs 2 0)) j never) (isForce tag j)) (fields tag) ≡ true
-unfolding every
+all-within : (tag : Tag) (vs : List ℕ) → Ranged tag vs → everyBelow (λ j. within (getD (ranges tag (getD vs 2 0)) j never) (isForce tag j)) (fields tag) ≡ true
+unfolding everyBelow
 all-within B vs e =
     let n = getD vs 2 0 in
     let l = leb-true n 99 (and-right (leb 1 n) (leb n 99) (every-at (inRange B vs) 6 2 e (omega arith))) in

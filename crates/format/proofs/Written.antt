@@ -10,7 +10,7 @@ use lib.Seq.{getD-take, getD-drop}
 use borrow.Author.Tests.{eqb-true, eq-eqb, ne-eqb, lt-ltb}
 use Rattle.records.specs.Records.{zeroForce}
 use Rattle.format.specs.Spelling.{spelled, same, value, written, minusOf}
-use Rattle.format.specs.declared.cursor.Field.the-variants.{Number, Miswritten}
+use Rattle.format.specs.declared.cursor.Field.the-variants.{Number, Refused}
 use Rattle.format.specs.Field.{fieldStep}
 use Rattle.records.proofs.Below.{and-left, and-right}
 use Rattle.format.proofs.Columns.{same-eq, blank-small}
@@ -27,7 +27,7 @@ unfolding written
 written-by l at sign n r e f g = g ∙ rw (text-head l at, eq-eqb _ _ e, f)
 
 module _ (t : List ℕ) (n next : ℕ) (f : n ≡ value 0 t) where
-  pub minus-zero : n ≡ 0 → Miswritten (record { at = next }) ≡ fieldStep (minusOf t) next
+  pub minus-zero : n ≡ 0 → Refused 2 (record { at = next }) ≡ fieldStep (minusOf t) next
   unfolding minusOf
   minus-zero z = let e : value 0 t ≡ 0 = sym f ∙ z in rw e (simp and-false)
 
@@ -35,7 +35,7 @@ module _ (t : List ℕ) (n next : ℕ) (f : n ≡ value 0 t) where
   unfolding minusOf
   minus-number w z = rw (w, lt-ltb 0 (value 0 t) (omega (arith, z)), f)
 
-pub minus-not : (t : List ℕ) (next : ℕ) → written 45 t ≡ false → Miswritten (record { at = next }) ≡ fieldStep (minusOf t) next
+pub minus-not : (t : List ℕ) (next : ℕ) → written 45 t ≡ false → Refused 2 (record { at = next }) ≡ fieldStep (minusOf t) next
 unfolding minusOf
 minus-not t next w = rw w
 

@@ -28,8 +28,7 @@ lineEnd (b ∷ s) = pick (eqb b 10) 0 (suc (lineEnd s))
 
 -- the bytes start with a line of this tag: the tag, its fields of 8 columns, and the first LF
 unfoldable pub shaped : Tag → List ℕ → Bool
-shaped tag s =
-    eqb (getD s 0 0) (tagByte tag) && (eqb (lineEnd s) (8 * fields tag + 1) && ltb (8 * fields tag + 1) (length s))
+shaped tag s = eqb (getD s 0 0) (tagByte tag) && (eqb (lineEnd s) (8 * fields tag + 1) && ltb (8 * fields tag + 1) (length s))
 
 -- fields 18 and 19 of an M line, N_D and N_K, may have a minus
 abbrev pub isForce : Tag → ℕ → Bool
@@ -41,7 +40,7 @@ isForce M j = eqb j 17 || eqb j 18
 unfoldable pub fieldAt : Tag → List ℕ → ℕ → ℕ → Option ℕ
 fieldAt tag s at j = fieldOf (isForce tag j) (take 8 (drop (at + 1 + 8 * j) s))
 
--- that number; 0 where there is none
+-- that number; 0 where there is none: past a refused field it means nothing, and the refusal comes first
 abbrev pub numberIn : Option ℕ → ℕ
 numberIn (some v) = v
 numberIn none = 0

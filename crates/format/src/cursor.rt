@@ -15,11 +15,14 @@ pub struct Cursor {
     pub at: usize,
 }
 
-// What a field holds, with the next place.
+// The number that a field holds, or its refusal, with the next place.
 pub enum Field {
     Number(u64, Cursor),
-    Miswritten(Cursor),
+    Refused(u64, Cursor),
 }
+
+// 2: a field not written as it must be.
+const MISWRITTEN: u64 = 2;
 
 // The eight bytes from `at`, whose digits make n, are a field written with this sign.
 fn is_written(s: &[u8], at: usize, sign: u8, n: u64) -> bool
@@ -38,14 +41,14 @@ fn plain_at(s: &[u8], at: usize) -> Field
     ensures { λ r. ⌜ r ≡ fieldStep (fieldOf false (take 8 (drop at (now (s .entry))))) (at + 8) ⌝ }
 {
     if s[at] != b' ' {
-        return Field::Miswritten(Cursor { at: at + 8 });
+        return Field::Refused(MISWRITTEN, Cursor { at: at + 8 });
     }
     let mut v = 0;
     let mut i = 1;
     while i < 8 {
         let b = s[at + i];
         if !goes_on(v, b, i == 7) {
-            return Field::Miswritten(Cursor { at: at + 8 });
+            return Field::Refused(MISWRITTEN, Cursor { at: at + 8 });
         }
         v = push(v, b);
         i += 1;
@@ -60,12 +63,12 @@ fn minus_at(s: &[u8], at: usize) -> Field
 {
     let n = digits(s, at);
     if n == 0 {
-        return Field::Miswritten(Cursor { at: at + 8 });
+        return Field::Refused(MISWRITTEN, Cursor { at: at + 8 });
     }
     if is_written(s, at, b'-', n) {
         return Field::Number(ZERO_FORCE - n, Cursor { at: at + 8 });
     }
-    Field::Miswritten(Cursor { at: at + 8 })
+    Field::Refused(MISWRITTEN, Cursor { at: at + 8 })
 }
 
 // N_D or N_K, counted from -20,000,000.
@@ -76,7 +79,7 @@ fn force_at(s: &[u8], at: usize) -> Field
     let f = plain_at(s, at);
     match f {
         Field::Number(n, _) => Field::Number(ZERO_FORCE + n, Cursor { at: at + 8 }),
-        Field::Miswritten(_) => minus_at(s, at),
+        Field::Refused(_, _) => minus_at(s, at),
     }
 }
 
@@ -94,13 +97,13 @@ impl Cursor {
     }
 }
 
-// The number of a field, 0 where it is not written as it must be.
+// The number of a field, 0 where it is refused.
 pub(crate) fn number_of(f: Field) -> u64
     ensures { λ r. ⌜ r ≡ numberOf f ⌝ }
 {
     match f {
         Field::Number(v, _) => v,
-        Field::Miswritten(_) => 0,
+        Field::Refused(_, _) => 0,
     }
 }
 
@@ -109,6 +112,6 @@ pub(crate) fn next_of(f: Field) -> Cursor
 {
     match f {
         Field::Number(_, c) => c,
-        Field::Miswritten(c) => c,
+        Field::Refused(_, c) => c,
     }
 }

@@ -5,8 +5,8 @@ ghost use Prim.Native.Nat.{_+_, _*_, _≤_};
 ghost use lib.ListN.{length, drop, getD};
 ghost use Rattle.records.specs.First.{pick};
 ghost use Rattle.records.specs.Records.{allows, never, ranges, fields};
-ghost use Rattle.format.specs.Field.{optionOf, framed, holdsFields, FieldsHeld, FieldsOf};
-ghost use Rattle.format.specs.Lines.{tagByte, lineEnd, shaped, isForce, valueAt, isWritten, faultIn, fieldsFault};
+ghost use Rattle.format.specs.Field.{optionOf, faultOf, framed, holdsFields, FieldsHeld, FieldsOf};
+ghost use Rattle.format.specs.Lines.{tagByte, lineEnd, shaped, isForce, valueAt, isWritten, fieldsFault};
 ghost use Rattle.records.specs.declared.Tag.the-variants.{M};
 use crate::cursor::Cursor;
 use crate::cursor::Field;
@@ -98,13 +98,13 @@ fn is_force_field(j: usize) -> bool
     j == 18
 }
 
-// 2 or 3 of field j, or 0.
+// The refusal of field j, 2 or 3, or 0.
 fn fault_of(f: Field, tag: Tag, j: usize, storeys: u64) -> u64
-    ensures { λ r. ⌜ r ≡ faultIn (optionOf f) (getD (ranges tag storeys) j never) ⌝ }
+    ensures { λ r. ⌜ r ≡ faultOf f (getD (ranges tag storeys) j never) ⌝ }
 {
     match f {
         Field::Number(v, _) => range_fault(tag, j, v, storeys),
-        Field::Miswritten(_) => 2,
+        Field::Refused(n, _) => n,
     }
 }
 
@@ -128,7 +128,7 @@ fn written_too(written: bool, f: Field) -> bool
 {
     match f {
         Field::Number(_, _) => written,
-        Field::Miswritten(_) => false,
+        Field::Refused(_, _) => false,
     }
 }
 

@@ -17,12 +17,13 @@ use Rattle.members.specs.Class.{classOf}
 use Rattle.members.specs.Tables.{published, places, moments, rotations}
 use Rattle.members.specs.Limits.{mLimitAt, rotationLimitAt}
 use Rattle.members.specs.Sizes.{SizedSet}
-use Rattle.members.specs.Finding.{axialRatioD, momentRatio, ratios, mLimit, rotationLimit, mDropped, exceeds, isOver, findingBy, knowledge}
+use Rattle.members.specs.Finding.{axialRatioD, momentRatio, mLimit, rotationLimit, mDropped, exceeds, isOver, findingBy, knowledge}
+use Rattle.members.specs.Assembly.{ratios}
 
 module _ (s : LimitSet) (k : ℕ) (met : Bool) (m : Member) where
-  pub assembled : {class : Class} {at : Ratios} {ratio limit nd : Ratio} {allowed : Microradians} {dropped over : Bool} → class ≡ classOf k m → at ≡ ratios m → ratio ≡ momentRatio k m → limit ≡ mLimitAt s class (m .zone) (m .strengthened) (at .n .0) (at .v .0) (at .rho .0) → allowed ≡ rotationLimitAt s class (m .zone) (m .strengthened) (m .factor) (at .n .0) (at .v .0) (at .rho .0) → dropped ≡ mDropped k met m → over ≡ exceeds dropped (ratio .0) (limit .0) (m .case .rotation) (allowed .0) → nd ≡ axialRatioD m → _≡_ {A = Finding} (record { class = class; m = ratio; «m_limit» = limit; rotation = microradians (m .case .rotation); «rotation_limit» = allowed; over = over; nd = nd }) (findingBy s k met m)
+  pub assembled : {class : Class} {at : Ratios} {ratio limit nd : Ratio} {rotation allowed : Microradians} {dropped over : Bool} → class ≡ classOf k m → at ≡ ratios m → ratio ≡ momentRatio k m → rotation ≡ microradians (m .case .rotation) → limit ≡ mLimitAt s class (m .zone) (m .strengthened) (at .n .0) (at .v .0) (at .rho .0) → allowed ≡ rotationLimitAt s class (m .zone) (m .strengthened) (m .factor) (at .n .0) (at .v .0) (at .rho .0) → dropped ≡ mDropped k met m → over ≡ exceeds dropped (ratio .0) (limit .0) (rotation .0) (allowed .0) → nd ≡ axialRatioD m → _≡_ {A = Finding} (record { class = class; m = ratio; «m_limit» = limit; rotation = rotation; «rotation_limit» = allowed; over = over; nd = nd }) (findingBy s k met m)
   unfolding findingBy isOver mLimit rotationLimit ratios
-  assembled e1 e2 e3 e4 e5 e6 e7 e8 = cc
+  assembled e1 e2 e3 e4 e5 e6 e7 e8 e9 = rw (e9, e8, e7, e6, e5, e4, e3, e2, e1)
 
 -- k's two levels are within what the ratios compute with
 pub level-sized : (k : ℕ) → knowledge k ≡ true → (1 ≤ k) × (k ≤ 100)

@@ -7,3 +7,4 @@ pub mod Means
 pub mod Order
 pub mod Rounding
 pub mod Worse
+pub mod Returned

@@ -18,22 +18,23 @@ use Rattle.members.specs.declared.tables.Two.{Two}
 use Rattle.members.specs.declared.tables.Places.{Places}
 use Rattle.members.specs.declared.tables.Table.{Table}
 use Rattle.members.specs.declared.tables.LimitSet.{LimitSet}
-use Rattle.members.specs.Tables.{two, all, placesRise, ordered, orderedSet, published, places, moments, rotations}
+use Rattle.members.specs.Tables.{two, published, places, moments, rotations}
+use Rattle.members.specs.Ordered.{allHold, placesRise, ordered, orderedSet}
 use Rattle.members.specs.Limits.{row, interp, blend, gap, per, columnA, columnB, columnC, wallRows, wallB, exact, quarters, mLimitAt, rotationLimitAt}
 use Rattle.members.proofs.Fractions.{_⊑_, ⊑-trans, per-mono, share-mono}
 use Rattle.members.proofs.Falling.{Falling, end, step, positive, falls, Below, last, more, Times, under, padded, blend-values, blend-falls, blend-rises, blend-least, blend-most}
 
 -- the published set meets the conditions
 pub published-ordered : orderedSet published ≡ true
-unfolding all placesRise ordered places moments rotations
+unfolding allHold placesRise ordered places moments rotations
 published-ordered = refl
 
 -- one of the tests
-one : (bs : List Bool) → all bs ≡ true → (i : ℕ) → getD bs i true ≡ true
-unfolding all
+one : (bs : List Bool) → allHold bs ≡ true → (i : ℕ) → getD bs i true ≡ true
+unfolding allHold
 one [] e i = refl
-one (b ∷ bs) e zero = and-left b (all bs) e
-one (b ∷ bs) e (suc i) = one bs (and-right b (all bs) e) i
+one (b ∷ bs) e zero = and-left b (allHold bs) e
+one (b ∷ bs) e (suc i) = one bs (and-right b (allHold bs) e) i
 
 -- the conditions as facts
 pub record Rising (p : Places) : Type 0 where

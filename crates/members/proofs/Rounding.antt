@@ -2,7 +2,8 @@
 use Prim.Native.Nat.{ℕ, _+_, _-_, _*_, _/_, _≤_, _<_}
 use native.Mathlib.Omega.{arith}
 use native.Mathlib.Nat.{div-lt-iff-lt-mul, lt-div-mul-add, mul-le-mul-left, mul-le-mul-right, mul-pos, le-div-iff-mul-le, div-mul-le-self}
-use Rattle.members.specs.Units.{floor, ceiling, ratioUp, ratioScale, hoopDown, hoopScale}
+use Rattle.members.specs.Units.{floor, ceiling, ratioUp, ratioScale, hoopDown, hoopScale, microradians, microCap, microDown, microSteps}
+use mathlib.Core.Path.{_≡_, ap}
 use Rattle.members.specs.Finding.{axial, moment, stress, hoops, compression}
 
 -- the quotient rounded up is the least number whose multiple covers what is divided
@@ -29,6 +30,15 @@ floor-mono {a} {a'} b h p = le-div-iff-mul-le p .1 (omega (arith, div-mul-le-sel
 pub hoop-mono : {a a' : ℕ} (b : ℕ) → a' ≤ a → 0 < b → hoopDown a' b .0 ≤ hoopDown a b .0
 hoop-mono {a} {a'} b h p =
     omega (arith, floor-mono {a = a * hoopScale} {a' = a' * hoopScale} b (mul-le-mul-right hoopScale h) p)
+
+-- below the cap a rotation is as it is without one
+pub below-cap : (a b : ℕ) → 0 < b → a ≤ microCap * b → microDown a b ≡ microSteps a b
+below-cap a b h k =
+    let r : a / b < microCap + 1 = div-lt-iff-lt-mul h .1 (omega arith) in
+    ap microradians (omega arith)
+
+pub whole : (a : ℕ) → microSteps a 1 ≡ microradians a
+whole a = ap microradians (omega arith)
 
 -- n and n_D rise with the force, m with M_e and as M_p falls, v with V_e; ρ falls as A_sh does
 pub axial-mono : {force force' : ℕ} (fcm area : ℕ) → force ≤ force' → 0 < fcm → 0 < area → axial force fcm area .0 ≤ axial force' fcm area .0

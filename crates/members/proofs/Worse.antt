@@ -14,7 +14,7 @@ use Rattle.members.specs.declared.class.Class.{Class}
 use Rattle.members.specs.declared.class.Class.the-variants.{ColumnA, ColumnB, ColumnC}
 use Rattle.members.specs.declared.tables.LimitSet.{LimitSet}
 use Rattle.members.specs.Class.{isWall, hoopsHold, detailed, shearBelow, columnClass, classOf}
-use Rattle.members.specs.Tables.{orderedSet}
+use Rattle.members.specs.Ordered.{orderedSet}
 use Rattle.members.specs.Limits.{mLimitAt, rotationLimitAt}
 use Rattle.members.specs.Finding.{axialRatio, axialRatioD, wallStress, hoopRatio, axial, stress, hoops, mLimit, rotationLimit, mDropped, exceeds, isOver}
 use Rattle.members.proofs.Order.{Later, same, a-then-b, a-then-c, b-then-c, Ratios≤, m-falls, rotation-falls}

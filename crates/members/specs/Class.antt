@@ -25,9 +25,7 @@ hoopsHold hoops fyw fcm s core = leb (6 * fcm * s * core) (100 * hoops * fyw)
 
 -- "detailed" means s ≤ 100, hooks 1, and enough hoops
 unfoldable pub detailed : Member → Bool
-detailed m =
-    leb (m .spacing) 100
-    && (eqb (m .hooks) 1 && hoopsHold (m .hoops) (m .fyw) (m .fcm) (m .spacing) (m .core))
+detailed m = leb (m .spacing) 100 && (eqb (m .hooks) 1 && hoopsHold (m .hoops) (m .fyw) (m .fcm) (m .spacing) (m .core))
 
 -- "100 × V_e < k × V_r"
 abbrev pub shearBelow : ℕ → ℕ → ℕ → Bool
@@ -35,17 +33,11 @@ shearBelow k ve vr = ltb (100 * ve) (k * vr)
 
 -- "With 1000 × V_e ≤ 7 × k × V_r: A if detailed, else B. Otherwise B if detailed or 1000 × V_e ≤ 11 × k × V_r, else C"
 unfoldable pub columnClass : Bool → ℕ → ℕ → ℕ → Class
-columnClass d k ve vr =
-    pick (leb (1_000 * ve) (7 * k * vr))
-    (pick d ColumnA ColumnB)
-    (pick (d || leb (1_000 * ve) (11 * k * vr)) ColumnB ColumnC)
+columnClass d k ve vr = pick (leb (1_000 * ve) (7 * k * vr)) (pick d ColumnA ColumnB) (pick (d || leb (1_000 * ve) (11 * k * vr)) ColumnB ColumnC)
 
 -- "Wall: A when H_w ≥ 2 × long side and 100 × V_e < k × V_r, else B"
 unfoldable pub wallClass : ℕ → ℕ → ℕ → ℕ → ℕ → Class
 wallClass hw long k ve vr = pick (leb (2 * long) hw && shearBelow k ve vr) WallA WallB
 
 unfoldable pub classOf : ℕ → Member → Class
-classOf k m =
-    pick (isWall m)
-    (wallClass (m .height) (m .long) k (m .case .ve) (m .case .vr))
-    (columnClass (detailed m) k (m .case .ve) (m .case .vr))
+classOf k m = pick (isWall m) (wallClass (m .height) (m .long) k (m .case .ve) (m .case .vr)) (columnClass (detailed m) k (m .case .ve) (m .case .vr))

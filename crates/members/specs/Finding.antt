@@ -9,7 +9,6 @@ use Rattle.records.specs.declared.Member.{Member}
 use Rattle.members.specs.declared.finding.Finding.{Finding}
 use Rattle.members.specs.declared.finding.MemberAnswer.{MemberAnswer}
 use Rattle.members.specs.declared.finding.MemberAnswer.the-variants.{Judged, Refused}
-use Rattle.members.specs.declared.limits.Ratios.{Ratios}
 use Rattle.members.specs.declared.tables.LimitSet.{LimitSet}
 use Rattle.members.specs.declared.units.Ratio.{Ratio}
 use Rattle.members.specs.declared.units.HoopRatio.{HoopRatio}
@@ -55,19 +54,14 @@ wallStress m = stress (m .case .ve) (m .short) (m .depth) (m .fctm)
 abbrev pub hoopRatio : Member → HoopRatio
 hoopRatio m = hoops (m .hoops) (m .spacing) (m .core)
 
-unfoldable pub ratios : Member → Ratios
-ratios m = record { n = axialRatio m; v = wallStress m; rho = hoopRatio m }
-
 -- the limits of a member: those of its class at its ratios and marks
 unfoldable pub mLimit : LimitSet → ℕ → Member → Ratio
-mLimit s k m =
-    mLimitAt s (classOf k m) (m .zone) (m .strengthened) (axialRatio m .0) (wallStress m .0) (hoopRatio m .0)
+mLimit s k m = mLimitAt s (classOf k m) (m .zone) (m .strengthened) (axialRatio m .0) (wallStress m .0) (hoopRatio m .0)
 
 unfoldable pub rotationLimit : LimitSet → ℕ → Member → Microradians
-rotationLimit s k m =
-    rotationLimitAt s (classOf k m) (m .zone) (m .strengthened) (m .factor) (axialRatio m .0) (wallStress m .0) (hoopRatio m .0)
+rotationLimit s k m = rotationLimitAt s (classOf k m) (m .zone) (m .strengthened) (m .factor) (axialRatio m .0) (wallStress m .0) (hoopRatio m .0)
 
--- "The m test is dropped for a wall with drift < 7,500 and 100 × V_e < k × V_r, in a storey whose walls' V total ≥ 0.40 × storey shear": met
+-- "The m test is dropped for a wall with drift < 7,500 and 100 × V_e < k × V_r, in a storey whose walls' V total ≥ 0.40 × storey shear", which `met` says of the member's storey
 unfoldable pub mDropped : ℕ → Bool → Member → Bool
 mDropped k met m = met && (isWall m && (ltb (m .case .drift) 7_500 && shearBelow k (m .case .ve) (m .case .vr)))
 
@@ -76,8 +70,7 @@ abbrev pub exceeds : Bool → ℕ → ℕ → ℕ → ℕ → Bool
 exceeds dropped m limit rotation rotationLimit = (not dropped && ltb limit m) || ltb rotationLimit rotation
 
 unfoldable pub isOver : LimitSet → ℕ → Bool → Member → Bool
-isOver s k met m =
-    exceeds (mDropped k met m) (momentRatio k m .0) (mLimit s k m .0) (m .case .rotation) (rotationLimit s k m .0)
+isOver s k met m = exceeds (mDropped k met m) (momentRatio k m .0) (mLimit s k m .0) (m .case .rotation) (rotationLimit s k m .0)
 
 unfoldable pub findingBy : LimitSet → ℕ → Bool → Member → Finding
 findingBy s k met m =
@@ -97,10 +90,7 @@ knowledge k = eqb k 90 || eqb k 100
 
 -- the answer on one member: k's 3, then the record's 3 and 4, then the finding
 unfoldable pub answerBy : LimitSet → ℕ → Bool → Member → MemberAnswer
-answerBy s k met m =
-    pick (knowledge k)
-    (pick (eqb (memberFault m) 0) (Judged (findingBy s k met m)) (Refused (memberFault m)))
-    (Refused 3)
+answerBy s k met m = pick (knowledge k) (pick (eqb (memberFault m) 0) (Judged (findingBy s k met m)) (Refused (memberFault m))) (Refused 3)
 
 -- by the published set
 abbrev pub finding : ℕ → Bool → Member → Finding
@@ -121,15 +111,7 @@ flag false = 0
 
 -- the values of a printed member after its number, and n_D
 abbrev pub findingValues : Finding → List ℕ
-findingValues f =
-    code (f .class)
-    ∷ f .m .0
-    ∷ f .«m_limit» .0
-    ∷ f .rotation .0
-    ∷ f .«rotation_limit» .0
-    ∷ flag (f .over)
-    ∷ f .nd .0
-    ∷ []
+findingValues f = code (f .class) ∷ f .m .0 ∷ f .«m_limit» .0 ∷ f .rotation .0 ∷ f .«rotation_limit» .0 ∷ flag (f .over) ∷ f .nd .0 ∷ []
 
 abbrev pub found : Finding → Returned
 found f = record { refusal = 0; line = 0; values = findingValues f }

@@ -4,3 +4,5 @@ pub mod Tables
 pub mod Limits
 pub mod Sizes
 pub mod Finding
+pub mod Ordered
+pub mod Assembly

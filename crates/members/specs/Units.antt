@@ -24,6 +24,10 @@ hoopScale = 1_000_000
 abbrev pub hoopCap : ℕ
 hoopCap = 999_999
 
+-- what the field of a rotation holds at most ("run from 0 .. to 9,999,999"): the cap of the code's unit, which no limit reaches (`below-cap` of proofs/Rounding)
+abbrev pub microCap : ℕ
+microCap = 9_999_999
+
 -- on the ratio grid: the axial ratios per member between which the allowed share falls ("Storey and building")
 abbrev pub shareFrom : ℕ
 shareFrom = 1_000
@@ -40,14 +44,17 @@ hoop n = record { 0 = n }
 abbrev pub microradians : ℕ → Microradians
 microradians n = record { 0 = n }
 
--- a / b as a ratio, rounded up; as a hoop ratio, rounded down
+-- a / b as a ratio, rounded up; as a hoop ratio or microradians, rounded down
 abbrev pub ratioUp : ℕ → ℕ → Ratio
 ratioUp a b = ratio (min ratioCap (ceiling (a * ratioScale) b))
 
 abbrev pub hoopDown : ℕ → ℕ → HoopRatio
 hoopDown a b = hoop (min hoopCap (floor (a * hoopScale) b))
 
--- a limit of a / b steps of its grid, rounded down
+abbrev pub microDown : ℕ → ℕ → Microradians
+microDown a b = microradians (min microCap (floor a b))
+
+-- a limit of a / b steps of its grid, rounded down.
 abbrev pub ratioSteps : ℕ → ℕ → Ratio
 ratioSteps a b = ratio (floor a b)
 

@@ -2,7 +2,8 @@
 ghost use mathlib.Core.Path.{_≡_};
 ghost use Prim.Native.Nat.{_≤_};
 ghost use Rattle.records.specs.Valid.{Valid};
-ghost use Rattle.members.specs.Finding.{flag, compression, axial, moment, stress, hoops, ratios, mDropped, exceeds, findingBy, knowledge, memberAnswer};
+ghost use Rattle.members.specs.Finding.{flag, compression, axial, moment, stress, hoops, mDropped, exceeds, findingBy, knowledge, returned, memberReturned};
+ghost use Rattle.members.specs.Assembly.{ratios};
 ghost use Rattle.members.specs.Sizes.{SizedSet};
 use crate::class::Class;
 use crate::class::class_of;
@@ -132,7 +133,7 @@ fn judge(s: LimitSet, k: u64, met: bool, m: Member) -> Finding
     let at = ratios(m);
     let ratio = moment_ratio(k, c.me, c.mp);
     let m_limit = m_limit(s, class, m.zone, m.strengthened, at);
-    let rotation = Microradians(c.rotation);
+    let rotation = Microradians::steps(c.rotation, 1);
     let rotation_limit = rotation_limit(s, class, m.zone, m.strengthened, m.factor, at);
     let dropped = m_dropped(k, met, m);
     Finding {
@@ -158,7 +159,7 @@ pub fn known(k: u64) -> bool
 
 // The call on a member: k is its survey's knowledge level, met whether its storey meets the 0.40 condition.
 pub fn judge_member(k: u64, met: bool, m: Member) -> MemberAnswer
-    ensures { λ r. ⌜ r ≡ memberAnswer k met m ⌝ }
+    ensures { λ r. ⌜ returned r ≡ memberReturned k met m ⌝ }
 {
     if !known(k) {
         return MemberAnswer::Refused(3);

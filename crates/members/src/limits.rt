@@ -270,14 +270,14 @@ fn round_m(f: Fraction, q: u64) -> Ratio
     requires { ⌜ Mean 9_999_999 f × (q ≤ 4) ⌝ }
     ensures { λ r. ⌜ r ≡ roundM f q ⌝ }
 {
-    Ratio::down(f.num * q, f.den * 4)
+    Ratio::steps(f.num * q, f.den * 4)
 }
 
 fn round_rotation(f: Fraction, q: u64, factor: u64) -> Microradians
     requires { ⌜ Mean 999_999 f × (q ≤ 4) × (factor ≤ 100) ⌝ }
     ensures { λ r. ⌜ r ≡ roundRotation f q factor ⌝ }
 {
-    Microradians::down(f.num * q * factor, f.den * 4 * 100)
+    Microradians::steps(f.num * q * factor, f.den * 4 * 100)
 }
 
 // The limit of m.

@@ -1,7 +1,7 @@
 // The units of document 01, "Member": each type holds its own number, its grid and its rounding.
 ghost use mathlib.Core.Path.{_≡_};
 ghost use Prim.Native.Nat.{_^_, _<_, _≤_};
-ghost use Rattle.members.specs.Units.{ratioUp, hoopDown, ratioSteps, microSteps};
+ghost use Rattle.members.specs.Units.{ratioUp, hoopDown, ratioSteps, microDown};
 
 // n, n_D, m, v and the limits of m: ten-thousandths.
 pub struct Ratio(pub u64);
@@ -9,7 +9,7 @@ pub struct Ratio(pub u64);
 // The hoop ratio ρ: millionths.
 pub struct HoopRatio(pub u64);
 
-// A rotation and its limit. It is read and printed as it stands, and document 01 gives it no cap.
+// A rotation and its limit. Its cap is the most that the field of a rotation holds: no limit reaches it.
 pub struct Microradians(pub u64);
 
 impl Ratio {
@@ -31,7 +31,7 @@ impl Ratio {
     }
 
     // A limit of num / den steps of the grid, rounded down.
-    pub(crate) fn down(num: u64, den: u64) -> Ratio
+    pub(crate) fn steps(num: u64, den: u64) -> Ratio
         requires { ⌜ 0 < den ⌝ }
         ensures { λ r. ⌜ r ≡ ratioSteps num den ⌝ }
     {
@@ -61,11 +61,18 @@ impl HoopRatio {
 impl Microradians {
     pub const SCALE: u64 = 1_000_000;
 
-    // A limit of num / den microradians, rounded down.
-    pub(crate) fn down(num: u64, den: u64) -> Microradians
+    pub const CAP: u64 = 9_999_999;
+
+    // num / den microradians, rounded down and capped.
+    pub(crate) fn steps(num: u64, den: u64) -> Microradians
         requires { ⌜ 0 < den ⌝ }
-        ensures { λ r. ⌜ r ≡ microSteps num den ⌝ }
+        ensures { λ r. ⌜ r ≡ microDown num den ⌝ }
     {
-        Microradians(num / den)
+        let steps = num / den;
+        if steps < Microradians::CAP {
+            Microradians(steps)
+        } else {
+            Microradians(Microradians::CAP)
+        }
     }
 }

@@ -12,7 +12,8 @@ use borrow.Author.Tests.{eqb-true, ltb-true, ltb-false}
 use Rattle.records.specs.First.{pick, inOrder}
 use Rattle.records.specs.Records.{storeyFault, memberFault, repeated}
 use Rattle.format.specs.Lines.{shaped, fieldsFault, headerAt}
-use Rattle.reading.specs.Survey.{lineStart, lineNumber, membersBefore, storey, memberStart, member, shape, unheld, headerLineFault, storeyLineFault, memberLineFault, noFault, at-line, firstFault, membersFault, storeysFault, trailing, surveyFault, firstMembers, survey, placed, filledMembers}
+use Rattle.reading.specs.Survey.{lineStart, lineNumber, membersBefore, storey, memberStart, member, shape, unheld, headerLineFault, storeyLineFault, memberLineFault, noFault, at-line, firstFault, membersFault, storeysFault, trailing, surveyFault, firstMembers, survey}
+use Rattle.reading.specs.Filling.{placed, filledMembers}
 use Rattle.records.specs.Totals.{listed}
 use Rattle.reading.specs.Checks.{Fits}
 use Rattle.reading.specs.Answer.{told, storeysTold, storeysAfter, membersAfter}

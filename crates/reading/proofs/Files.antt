@@ -11,7 +11,7 @@ use lib.ListN.{length, getD, set, length-set}
 use lib.Seq.{getD-set-same, getD-set-other}
 use borrow.Author.Count.{below-more}
 use borrow.Author.Tests.{eq-eqb, ne-eqb, lt-ltb, le-ltb}
-use Rattle.records.specs.First.{pick, any, inOrder}
+use Rattle.records.specs.First.{pick, anyBelow, inOrder}
 use Rattle.records.specs.Records.{storeyFault, repeated}
 use Rattle.format.specs.Lines.{fieldsFault}
 use Rattle.reading.specs.Survey.{lineStart, lineNumber, membersBefore, storey, shape, unheld, storeyLineFault, noFault, or-else, firstFault, membersFault, storeysFault, trailing}
@@ -48,7 +48,7 @@ module _ (s : List ℕ) (n srows mrows : ℕ) where
       }
 
   module _ (numbers : List ℕ) (i m : ℕ) (u : Begun s n srows mrows numbers i m) (h : i < n) (at : ℕ) (l : StoreyLine) (at-is : at ≡ lineStart i m) (o : StoreyLineOf s at (ltb i srows) l) (x f : ℕ)
-      (xi : x ≡ pick (any (λ (e : ℕ). eqb (getD numbers e 0) (l .storey .number)) i) 5 0) (fi : f ≡ pick (eqb (l .fault) 0) x (l .fault)) where
+      (xi : x ≡ pick (anyBelow (λ (e : ℕ). eqb (getD numbers e 0) (l .storey .number)) i) 5 0) (fi : f ≡ pick (eqb (l .fault) 0) x (l .fault)) where
     place-is : at ≡ lineStart i (membersBefore s i)
     place-is = omega (arith, u .before, at-is)
 

@@ -8,7 +8,8 @@ use mathlib.Core.Logic.{⊎-elim}
 use mathlib.Core.Path.{_≡_, refl, ap, sym, _∙_}
 use lib.ListN.{length}
 use Rattle.format.specs.Lines.{storeyAt, memberAt}
-use Rattle.reading.specs.Survey.{lineStart, membersBefore, storey, member, placed, filledMembers}
+use Rattle.reading.specs.Survey.{lineStart, membersBefore, storey, member}
+use Rattle.reading.specs.Filling.{placed, filledMembers}
 use Rattle.reading.specs.Checks.{Fits}
 use Rattle.records.specs.declared.Storey.{Storey}
 use Rattle.records.specs.declared.Member.{Member}

@@ -9,3 +9,4 @@ pub mod Resent
 pub mod Reread
 pub mod Says
 pub mod Structs
+pub mod Numbered

@@ -23,7 +23,7 @@ use Rattle.format.proofs.Fields.{all-clear, fields-held, fault-held}
 use Rattle.format.proofs.Shape.{shaped-fits}
 use Rattle.format.proofs.Held.{header-held, storey-held, member-held, from-first}
 use Rattle.format.proofs.Framed.{framed-shaped}
-use Rattle.records.proofs.Below.{and-left, and-right}
+use Rattle.records.proofs.Below.{and-left}
 use Rattle.records.proofs.Validity.{member-ranged}
 use Rattle.records.proofs.Firsts.{last-of}
 

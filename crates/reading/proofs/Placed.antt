@@ -5,7 +5,7 @@ use native.Mathlib.Numerals.{add-one}
 use mathlib.Core.List.{List}
 use mathlib.Core.Path.{_≡_, refl}
 use lib.ListN.{set}
-use Rattle.reading.specs.Survey.{placed}
+use Rattle.reading.specs.Filling.{placed}
 
 module _ {A : Type 0} (f : ℕ → A) (k : ℕ) (rows : List A) where
   pub placed-none : rows ≡ placed f k 0 rows

@@ -9,7 +9,7 @@ use lib.Dec.{eqb}
 use lib.ListN.{length, take, drop, getD, length-append, length-drop}
 use lib.Seq.{drop-cons, drop-drop, drop-at, take-suc, take-add, take-length, drop-length, length-take-le, getD-take, getD-drop}
 use borrow.Author.Tests.{ne-eqb, lt-ltb, le-ltb, eq-eqb}
-use Rattle.records.specs.First.{any, inOrder}
+use Rattle.records.specs.First.{anyBelow, inOrder}
 use Rattle.records.specs.Records.{headerValues, storeyValues, memberValues, storeyFault, memberFault, repeated}
 use Rattle.format.specs.Lines.{headerAt, storeyAt}
 use Rattle.reading.specs.Survey.{lineStart, lineNumber, membersBefore, storey, memberStart, member, shape, unheld, headerLineFault, storeyLineFault, memberLineFault, noFault, at-line, firstFault, membersFault, storeysFault, surveyFault, firstStoreys, firstMembers, accepted, survey}
@@ -27,8 +27,8 @@ use Rattle.reading.proofs.Resent.{total-more}
 use Rattle.format.proofs.Typed.{length-line, drop-past, header-typed, storey-typed, member-typed}
 
 -- ---- lists
-any-never : (p : ℕ → Bool) (n : ℕ) → ((j : ℕ) → j < n → p j ≡ false) → any p n ≡ false
-unfolding any
+any-never : (p : ℕ → Bool) (n : ℕ) → ((j : ℕ) → j < n → p j ≡ false) → anyBelow p n ≡ false
+unfolding anyBelow
 any-never p zero h = refl
 any-never p (suc n) h = rw (any-never p n (λ j l. h j (omega arith)), h n (omega arith))
 

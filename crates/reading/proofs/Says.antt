@@ -12,7 +12,8 @@ use borrow.Kind.ShrSlice.{pShrS}
 use borrow.Kind.MutSlice.{pMutS}
 use borrow.Table.Referent.{rtF, fInt}
 use Rattle.format.specs.Lines.{memberAt}
-use Rattle.reading.specs.Survey.{lineStart, membersBefore, storey as storeyOf, placed, filledMembers, survey}
+use Rattle.reading.specs.Survey.{lineStart, membersBefore, storey as storeyOf, survey}
+use Rattle.reading.specs.Filling.{placed, filledMembers}
 use Rattle.reading.specs.Answer.{tells, told, storeysAfter, membersAfter}
 use Rattle.reading.specs.Checks.{Fits}
 use Rattle.walk.proofs.Fn.{Plain}

@@ -10,7 +10,7 @@ use lib.ListN.{length, getD, set, length-set}
 use lib.Seq.{getD-set-same, getD-set-other}
 use borrow.Author.Count.{below-more}
 use borrow.Author.Tests.{ne-eqb}
-use Rattle.records.specs.First.{pick, any, first}
+use Rattle.records.specs.First.{pick, anyBelow, first}
 use Rattle.records.specs.Records.{memberFault, repeated}
 use Rattle.format.specs.Lines.{fieldsFault}
 use Rattle.records.specs.declared.Tag.the-variants.{M}
@@ -20,8 +20,8 @@ use Rattle.reading.specs.declared.survey.Fault.{Fault}
 use Rattle.reading.specs.declared.survey.MemberLine.{MemberLine}
 use Rattle.records.proofs.Firsts.{first-none, first-next, first-kept, in-order-last, pick-clear}
 
-pub any-same : (p q : ℕ → Bool) (n : ℕ) → ((e : ℕ) → e < n → p e ≡ q e) → any p n ≡ any q n
-unfolding any
+pub any-same : (p q : ℕ → Bool) (n : ℕ) → ((e : ℕ) → e < n → p e ≡ q e) → anyBelow p n ≡ anyBelow q n
+unfolding anyBelow
 any-same p q zero h = refl
 any-same p q (suc n) h = rw (any-same p q n (λ e l. h e (omega arith)), h n (omega arith))
 
@@ -45,7 +45,7 @@ module _ (s : List ℕ) (rows i m count : ℕ) where
   turn-first numbers z d = record { due = d; turn = omega arith; size = z; held = λ e l. absurd (not-suc-le-zero l); clear = first-none noFault (λ f. f .number) line }
 
   module _ (numbers : List ℕ) (j : ℕ) (u : Turn s rows i m count numbers j) (h : j < count) (at : ℕ) (l : MemberLine) (at-is : at ≡ lineStart (i + 1) (m + j)) (o : MemberLineOf s at (ltb (m + j) rows) l) (x f : ℕ)
-      (xi : x ≡ pick (any (λ (e : ℕ). eqb (getD numbers e 0) (l .number)) j) 5 0) (fi : f ≡ pick (eqb (l .fault) 0) x (l .fault)) where
+      (xi : x ≡ pick (anyBelow (λ (e : ℕ). eqb (getD numbers e 0) (l .number)) j) 5 0) (fi : f ≡ pick (eqb (l .fault) 0) x (l .fault)) where
     place-is : at ≡ memberStart s i j
     place-is = omega (arith, u .due .before, at-is)
 
@@ -59,7 +59,7 @@ module _ (s : List ℕ) (rows i m count : ℕ) where
     unfolding memberLineFault
     fault-is =
         fi
-        ∙ by-first (l .fault) x (pick (any (λ (e : ℕ). eqb (member s i e .number) (member s i j .number)) j) 5 0)
+        ∙ by-first (l .fault) x (pick (anyBelow (λ (e : ℕ). eqb (member s i e .number) (member s i j .number)) j) 5 0)
         (λ z. xi ∙ ap (λ (t : Bool). pick t 5 0) (any-same _ _ j (λ e g. rw (u .held e g, number-is z))))
         ∙ rw first-is
         (sym

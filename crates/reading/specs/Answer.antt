@@ -6,23 +6,8 @@ use Rattle.reading.specs.Survey.{Outcome, accepted, refused}
 use Rattle.records.specs.declared.Header.{Header}
 use Rattle.records.specs.declared.Storey.{Storey}
 use Rattle.records.specs.declared.Member.{Member}
-use Rattle.reading.specs.declared.refusal.Refusal.{Refusal}
-use Rattle.reading.specs.declared.refusal.Refusal.the-variants.{Line, Spelling, Range, Sides, Repeated, Trailing, Scope, Rows, Buffer, Shear}
 use Rattle.reading.specs.declared.survey.ReadAnswer.{ReadAnswer}
 use Rattle.reading.specs.declared.survey.ReadAnswer.the-variants.{Accepted, Refused}
-
--- the number of a refusal
-abbrev pub numberOfRefusal : Refusal → ℕ
-numberOfRefusal Line = 1
-numberOfRefusal Spelling = 2
-numberOfRefusal Range = 3
-numberOfRefusal Sides = 4
-numberOfRefusal Repeated = 5
-numberOfRefusal Trailing = 6
-numberOfRefusal Scope = 7
-numberOfRefusal Rows = 8
-numberOfRefusal Buffer = 9
-numberOfRefusal Shear = 10
 
 -- what an answer tells: the header, with the numbers of rows filled; or a refusal, by its number, with its line
 pub data Told : Type 0 where
@@ -31,7 +16,7 @@ pub data Told : Type 0 where
 
 abbrev pub tells : ReadAnswer → Told
 tells (Accepted h storeys members) = filled h storeys members
-tells (Refused r line) = refusal (numberOfRefusal r) line
+tells (Refused n line) = refusal n line
 
 -- what is told of an outcome
 abbrev pub told : Outcome → Told

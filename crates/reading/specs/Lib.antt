@@ -1,4 +1,5 @@
 pub mod Survey
+pub mod Filling
 pub mod Checks
 pub mod Answer
 pub mod Writing

@@ -3,7 +3,7 @@
 use Prim.Native.Nat.{ℕ, zero, suc, _+_, _*_}
 use mathlib.Core.List.{List, [], _∷_, _++_}
 use lib.Dec.{ltb, eqb}
-use lib.ListN.{length, drop, set}
+use lib.ListN.{length, drop}
 use Rattle.records.specs.First.{pick, inOrder, first}
 use Rattle.records.specs.Totals.{listed}
 use Rattle.records.specs.Records.{headerFault, storeyFault, memberFault, repeated}
@@ -78,19 +78,14 @@ firstFault = first noFault (λ f. f .number)
 
 -- "The earliest line wins": the first refusal of storey i's M lines, of its S line and these, and of the file
 unfoldable pub membersFault : List ℕ → ℕ → ℕ → Fault
-membersFault s rows i =
-    firstFault (λ j. at-line (lineNumber (i + 1) (membersBefore s i + j)) (memberLineFault s rows i j)) (storey s i .count)
+membersFault s rows i = firstFault (λ j. at-line (lineNumber (i + 1) (membersBefore s i + j)) (memberLineFault s rows i j)) (storey s i .count)
 
 unfoldable pub storeysFault : List ℕ → ℕ → ℕ → ℕ → Fault
-storeysFault s srows mrows i =
-    or-else (at-line (lineNumber i (membersBefore s i)) (storeyLineFault s srows i)) (membersFault s mrows i)
+storeysFault s srows mrows i = or-else (at-line (lineNumber i (membersBefore s i)) (storeyLineFault s srows i)) (membersFault s mrows i)
 
 -- 6, bytes after the last line, at the line they begin
 abbrev pub trailing : List ℕ → ℕ → Fault
-trailing s n =
-    pick (ltb (lineStart n (membersBefore s n)) (length s))
-    (record { number = 6; line = lineNumber n (membersBefore s n) })
-    noFault
+trailing s n = pick (ltb (lineStart n (membersBefore s n)) (length s)) (record { number = 6; line = lineNumber n (membersBefore s n) }) noFault
 
 unfoldable pub surveyFault : List ℕ → ℕ → ℕ → Fault
 surveyFault s srows mrows =
@@ -115,13 +110,3 @@ survey s srows mrows =
     pick (eqb (surveyFault s srows mrows .number) 0)
     (accepted (headerAt s 0) (firstStoreys s (headerAt s 0 .count)) (firstMembers s (headerAt s 0 .count)))
     (refused (surveyFault s srows mrows .number) (surveyFault s srows mrows .line))
-
--- rows k, k + 1, .. of a list are f 0, f 1, ..: n of them
-unfoldable pub placed : {A : Type 0} → (ℕ → A) → ℕ → ℕ → List A → List A
-placed f k zero rows = rows
-placed f k (suc n) rows = set (placed f k n rows) (k + n) (f n)
-
--- the rows with the members of the first n storeys in front
-unfoldable pub filledMembers : List ℕ → ℕ → List Member → List Member
-filledMembers s zero rows = rows
-filledMembers s (suc i) rows = placed (member s i) (membersBefore s i) (storey s i .count) (filledMembers s i rows)

@@ -3,13 +3,11 @@ ghost use mathlib.Core.Path.{_≡_};
 ghost use Prim.Native.Nat.{ℕ, _+_, _≤_};
 ghost use lib.Dec.{eqb};
 ghost use lib.ListN.{length, getD};
-ghost use Rattle.records.specs.First.{pick, any};
+ghost use Rattle.records.specs.First.{pick, anyBelow};
 ghost use Rattle.reading.specs.Checks.{HeaderLineOf, StoreyLineOf, MemberGood, MemberLineOf, MembersDue, CheckedOf};
 ghost use Rattle.reading.specs.Survey.{lineStart, membersFault, survey};
 ghost use Rattle.format.specs.Lines.{storeyAt, memberAt};
 ghost use Rattle.reading.specs.Answer.{tells, told, storeysTold};
-use crate::refusal::Refusal;
-use crate::refusal::refusal_of;
 use format::lines::fields_fault;
 use format::lines::is_framed;
 use format::lines::is_shaped;
@@ -25,6 +23,9 @@ use records::numbers::storey_of;
 use records::ranges::header_fault;
 use records::ranges::member_fault;
 use records::ranges::storey_fault;
+
+// 8: more members or storeys than the lent rows hold.
+const UNHELD: u64 = 8;
 
 // A refusal and its line; number 0 is none.
 pub struct Fault {
@@ -90,7 +91,7 @@ fn storey_line(s: &[u8], at: usize, held: bool) -> StoreyLine
     }
     if !held {
         return StoreyLine {
-            fault: 8,
+            fault: UNHELD,
             storey: none,
         };
     }
@@ -134,7 +135,7 @@ fn member_checks(s: &[u8], at: usize, held: bool) -> MemberLine
     }
     if !held {
         return MemberLine {
-            fault: 8,
+            fault: UNHELD,
             number: 0,
         };
     }
@@ -165,7 +166,7 @@ fn member_line(s: &[u8], at: usize, held: bool) -> MemberLine
 // 5 where one of the first n numbers is v.
 fn repeat_fault(numbers: &[u64; 200], n: usize, v: u64) -> u64
     requires { ⌜ n ≤ 200 ⌝ }
-    ensures { λ r. ⌜ r ≡ pick (any (λ (e : ℕ). eqb (getD (now (numbers .entry)) e 0) v) n) 5 0 ⌝ }
+    ensures { λ r. ⌜ r ≡ pick (anyBelow (λ (e : ℕ). eqb (getD (now (numbers .entry)) e 0) v) n) 5 0 ⌝ }
 {
     let mut e = 0;
     while e < n {
@@ -260,7 +261,7 @@ pub(crate) fn storeys_fault(s: &[u8], n: usize, srows: usize, mrows: usize) -> C
     }
 }
 
-// What reading a file comes to: the header and how many rows were filled, or the first refusal.
+// What reading a file comes to: the header and how many rows were filled, or the first refusal by its number, with its line.
 pub enum ReadAnswer {
     Accepted {
         header: Header,
@@ -268,7 +269,7 @@ pub enum ReadAnswer {
         members: usize,
     },
     Refused {
-        refusal: Refusal,
+        refusal: u64,
         line: u64,
     },
 }
@@ -283,10 +284,9 @@ pub(crate) fn check(s: &[u8], srows: usize, mrows: usize) -> Reading
 {
     let l = header_line(s);
     if l.fault != 0 {
-        let r = refusal_of(l.fault);
         return Reading {
             answer: ReadAnswer::Refused {
-                refusal: r,
+                refusal: l.fault,
                 line: 1,
             },
         };
@@ -295,10 +295,9 @@ pub(crate) fn check(s: &[u8], srows: usize, mrows: usize) -> Reading
     let storeys = header.count as usize;
     let c = storeys_fault(s, storeys, srows, mrows);
     if c.number != 0 {
-        let r = refusal_of(c.number);
         return Reading {
             answer: ReadAnswer::Refused {
-                refusal: r,
+                refusal: c.number,
                 line: c.line,
             },
         };

@@ -6,7 +6,7 @@ use native.Mathlib.Numerals.{add-one}
 use mathlib.Core.Bool.{Bool, true, false, _&&_, and-false, or-true}
 use mathlib.Core.Logic.{⊎-elim}
 use mathlib.Core.Path.{_≡_, refl, sym}
-use Rattle.records.specs.First.{every, any}
+use Rattle.records.specs.First.{everyBelow, anyBelow}
 
 pub and-left : (a b : Bool) → (a && b) ≡ true → a ≡ true
 and-left true b e = refl
@@ -22,40 +22,40 @@ agree true u f g = sym (f refl)
 agree false u f g = sym (g refl)
 
 module _ (p : ℕ → Bool) where
-  pub every-none : every p 0 ≡ true
-  unfolding every
+  pub every-none : everyBelow p 0 ≡ true
+  unfolding everyBelow
   every-none = refl
 
-  pub every-more : (n : ℕ) → every p n ≡ true → p n ≡ true → every p (n + 1) ≡ true
-  unfolding every
+  pub every-more : (n : ℕ) → everyBelow p n ≡ true → p n ≡ true → everyBelow p (n + 1) ≡ true
+  unfolding everyBelow
   every-more n e f = rw (add-one, e, f)
 
-  pub every-next : (n : ℕ) → every p (n + 1) ≡ (every p n && p n)
-  unfolding every
+  pub every-next : (n : ℕ) → everyBelow p (n + 1) ≡ (everyBelow p n && p n)
+  unfolding everyBelow
   every-next n = rw add-one
 
-  pub every-fails : (n j : ℕ) → j < n → p j ≡ false → every p n ≡ false
-  unfolding every
+  pub every-fails : (n j : ℕ) → j < n → p j ≡ false → everyBelow p n ≡ false
+  unfolding everyBelow
   every-fails zero j h e = absurd (not-suc-le-zero h)
   every-fails (suc n) j h e =
-      ⊎-elim (λ (q : j ≡ n). rw (← q, e) (and-false (every p j))) (λ (l : j < n). rw (every-fails n j l e)) (eq-or-lt-of-le (le-of-suc-le-suc h))
+      ⊎-elim (λ (q : j ≡ n). rw (← q, e) (and-false (everyBelow p j))) (λ (l : j < n). rw (every-fails n j l e)) (eq-or-lt-of-le (le-of-suc-le-suc h))
 
-  pub every-at : (n j : ℕ) → every p n ≡ true → j < n → p j ≡ true
-  unfolding every
+  pub every-at : (n j : ℕ) → everyBelow p n ≡ true → j < n → p j ≡ true
+  unfolding everyBelow
   every-at zero j e h = absurd (not-suc-le-zero h)
   every-at (suc n) j e h =
-      ⊎-elim (λ (q : j ≡ n). rw q (and-right (every p n) (p n) e)) (λ (l : j < n). every-at n j (and-left (every p n) (p n) e) l) (eq-or-lt-of-le (le-of-suc-le-suc h))
+      ⊎-elim (λ (q : j ≡ n). rw q (and-right (everyBelow p n) (p n) e)) (λ (l : j < n). every-at n j (and-left (everyBelow p n) (p n) e) l) (eq-or-lt-of-le (le-of-suc-le-suc h))
 
-  pub any-none : any p 0 ≡ false
-  unfolding any
+  pub any-none : anyBelow p 0 ≡ false
+  unfolding anyBelow
   any-none = refl
 
-  pub any-more : (n : ℕ) → any p n ≡ false → p n ≡ false → any p (n + 1) ≡ false
-  unfolding any
+  pub any-more : (n : ℕ) → anyBelow p n ≡ false → p n ≡ false → anyBelow p (n + 1) ≡ false
+  unfolding anyBelow
   any-more n e f = rw (add-one, e, f)
 
-  pub any-holds : (n j : ℕ) → j < n → p j ≡ true → any p n ≡ true
-  unfolding any
+  pub any-holds : (n j : ℕ) → j < n → p j ≡ true → anyBelow p n ≡ true
+  unfolding anyBelow
   any-holds zero j h e = absurd (not-suc-le-zero h)
   any-holds (suc n) j h e =
-      ⊎-elim (λ (q : j ≡ n). rw (← q, e) (or-true (any p j))) (λ (l : j < n). rw (any-holds n j l e)) (eq-or-lt-of-le (le-of-suc-le-suc h))
+      ⊎-elim (λ (q : j ≡ n). rw (← q, e) (or-true (anyBelow p j))) (λ (l : j < n). rw (any-holds n j l e)) (eq-or-lt-of-le (le-of-suc-le-suc h))

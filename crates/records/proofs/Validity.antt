@@ -6,7 +6,7 @@ use mathlib.Core.List.{List}
 use mathlib.Core.Path.{_≡_, refl}
 use lib.Dec.{leb}
 use borrow.Author.Tests.{leb-true}
-use Rattle.records.specs.First.{pick, every}
+use Rattle.records.specs.First.{pick, everyBelow}
 use Rattle.records.specs.declared.Header.{Header}
 use Rattle.records.specs.declared.Storey.{Storey}
 use Rattle.records.specs.declared.Member.{Member}
@@ -30,7 +30,7 @@ least a b v e = leb-true a v (and-left (leb a v) (leb v b) e)
 pub valid : (m : Member) → memberFault m ≡ 0 → Valid m
 unfolding memberFault
 valid m e =
-    let o = clear (every (inRange M (memberValues m)) 26) _ 3 e (omega arith) in
+    let o = clear (everyBelow (inRange M (memberValues m)) 26) _ 3 e (omega arith) in
     let f : (j : ℕ) → j < 26 → inRange M (memberValues m) j ≡ true = λ j h. every-at (inRange M (memberValues m)) 26 j (o .0) h in
     record {
       number = most _ _ _ (f 0 (omega arith));
@@ -75,19 +75,19 @@ valid m e =
 
 -- every field of a line is in its range
 abbrev pub Ranged : Tag → List ℕ → Type 0
-Ranged tag vs = every (inRange tag vs) (fields tag) ≡ true
+Ranged tag vs = everyBelow (inRange tag vs) (fields tag) ≡ true
 
 pub header-ranged : (h : Header) → headerFault h ≡ 0 → Ranged B (headerValues h)
 unfolding headerFault
-header-ranged h e = clear (every (inRange B (headerValues h)) 6) _ 3 e (omega arith) .0
+header-ranged h e = clear (everyBelow (inRange B (headerValues h)) 6) _ 3 e (omega arith) .0
 
 pub storey-ranged : (st : Storey) → storeyFault st ≡ 0 → Ranged S (storeyValues st)
 unfolding storeyFault
-storey-ranged st e = clear (every (inRange S (storeyValues st)) 3) _ 3 e (omega arith) .0
+storey-ranged st e = clear (everyBelow (inRange S (storeyValues st)) 3) _ 3 e (omega arith) .0
 
 pub member-ranged : (m : Member) → memberFault m ≡ 0 → Ranged M (memberValues m)
 unfolding memberFault
-member-ranged m e = clear (every (inRange M (memberValues m)) 26) _ 3 e (omega arith) .0
+member-ranged m e = clear (everyBelow (inRange M (memberValues m)) 26) _ 3 e (omega arith) .0
 
 -- a good storey has 200 members at most
 pub count-most : (st : Storey) → storeyFault st ≡ 0 → st .count ≤ 200

@@ -11,14 +11,14 @@ pick true a b = a
 pick false a b = b
 
 -- the test holds of every number below n
-unfoldable pub every : (ℕ → Bool) → ℕ → Bool
-every p zero = true
-every p (suc n) = every p n && p n
+unfoldable pub everyBelow : (ℕ → Bool) → ℕ → Bool
+everyBelow p zero = true
+everyBelow p (suc n) = everyBelow p n && p n
 
 -- the test holds of some number below n
-unfoldable pub any : (ℕ → Bool) → ℕ → Bool
-any p zero = false
-any p (suc n) = any p n || p n
+unfoldable pub anyBelow : (ℕ → Bool) → ℕ → Bool
+anyBelow p zero = false
+anyBelow p (suc n) = anyBelow p n || p n
 
 -- the first refusal of a list
 abbrev pub inOrder : List ℕ → ℕ

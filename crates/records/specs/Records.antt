@@ -4,7 +4,7 @@ use mathlib.Core.Bool.{Bool, _&&_, _||_}
 use mathlib.Core.List.{List, [], _∷_}
 use lib.Dec.{leb, eqb}
 use lib.ListN.{getD}
-use Rattle.records.specs.First.{pick, every, any}
+use Rattle.records.specs.First.{pick, everyBelow, anyBelow}
 use Rattle.records.specs.declared.Header.{Header}
 use Rattle.records.specs.declared.Storey.{Storey}
 use Rattle.records.specs.declared.Member.{Member}
@@ -31,14 +31,7 @@ zeroForce = 20_000_000
 
 -- "B": k, H_T, n_s, two tilts, number of S lines, which is at most n_s
 abbrev pub headerRanges : ℕ → List Allowed
-headerRanges ns =
-    either 90 100
-    ∷ between 1 99_999
-    ∷ between 1 99
-    ∷ between 0 9_999_999
-    ∷ between 0 9_999_999
-    ∷ between 1 ns
-    ∷ []
+headerRanges ns = either 90 100 ∷ between 1 99_999 ∷ between 1 99 ∷ between 0 9_999_999 ∷ between 0 9_999_999 ∷ between 1 ns ∷ []
 
 -- "S": storey number, storey shear, number of M lines
 abbrev pub storeyRanges : List Allowed
@@ -48,33 +41,12 @@ storeyRanges = between 1 9_999_999 ∷ between 1 9_999_999 ∷ between 1 200 ∷
 -- 15 strengthened; 16 factor; 17 damage kind; 18 N_D, 19 N_K; 20 M_e, 21 M_p; 22 V_e, 23 V_r; 24 V; 25 rotation; 26 drift
 abbrev pub memberRanges : List Allowed
 memberRanges =
-    between 1 9_999_999
-    ∷ between 1 99_999
-    ∷ between 1 99_999
-    ∷ between 1 9_999_999
-    ∷ between 1 9_999
-    ∷ between 1 9_999
-    ∷ between 1 99_999
-    ∷ between 1 99_999
-    ∷ between 1 99_999
-    ∷ between 1 9_999
-    ∷ between 1 99_999
-    ∷ between 0 99_999
-    ∷ between 0 1
-    ∷ between 0 1
-    ∷ between 0 1
-    ∷ between 0 100
-    ∷ between 0 4
-    ∷ between (zeroForce - 999_999) (zeroForce + 9_999_999)
-    ∷ between (zeroForce - 999_999) (zeroForce + 9_999_999)
-    ∷ between 0 9_999_999
-    ∷ between 1 9_999_999
-    ∷ between 0 9_999_999
-    ∷ between 1 9_999_999
-    ∷ between 0 9_999_999
-    ∷ between 0 9_999_999
-    ∷ between 0 9_999_999
-    ∷ []
+    between 1 9_999_999 ∷ between 1 99_999 ∷ between 1 99_999 ∷ between 1 9_999_999 ∷ between 1 9_999 ∷ between 1 9_999 ∷ between 1 99_999
+    ∷ between 1 99_999 ∷ between 1 99_999 ∷ between 1 9_999 ∷ between 1 99_999 ∷ between 0 99_999
+    ∷ between 0 1 ∷ between 0 1 ∷ between 0 1 ∷ between 0 100 ∷ between 0 4
+    ∷ between (zeroForce - 999_999) (zeroForce + 9_999_999) ∷ between (zeroForce - 999_999) (zeroForce + 9_999_999)
+    ∷ between 0 9_999_999 ∷ between 1 9_999_999 ∷ between 0 9_999_999 ∷ between 1 9_999_999
+    ∷ between 0 9_999_999 ∷ between 0 9_999_999 ∷ between 0 9_999_999 ∷ []
 
 -- the ranges of a line's fields; a B line's last depends on its n_s
 abbrev pub ranges : Tag → ℕ → List Allowed
@@ -101,33 +73,9 @@ storeyValues s = s .number ∷ s .shear ∷ s .count ∷ []
 
 abbrev pub memberValues : Member → List ℕ
 memberValues m =
-    m .number
-    ∷ m .long
-    ∷ m .short
-    ∷ m .area
-    ∷ m .fcm
-    ∷ m .fctm
-    ∷ m .fyw
-    ∷ m .depth
-    ∷ m .height
-    ∷ m .spacing
-    ∷ m .core
-    ∷ m .hoops
-    ∷ m .hooks
-    ∷ m .zone
-    ∷ m .strengthened
-    ∷ m .factor
-    ∷ m .damage
-    ∷ m .nd
-    ∷ m .case .nk
-    ∷ m .case .me
-    ∷ m .case .mp
-    ∷ m .case .ve
-    ∷ m .case .vr
-    ∷ m .case .shear
-    ∷ m .case .rotation
-    ∷ m .case .drift
-    ∷ []
+    m .number ∷ m .long ∷ m .short ∷ m .area ∷ m .fcm ∷ m .fctm ∷ m .fyw ∷ m .depth ∷ m .height ∷ m .spacing ∷ m .core ∷ m .hoops
+    ∷ m .hooks ∷ m .zone ∷ m .strengthened ∷ m .factor ∷ m .damage ∷ m .nd
+    ∷ m .case .nk ∷ m .case .me ∷ m .case .mp ∷ m .case .ve ∷ m .case .vr ∷ m .case .shear ∷ m .case .rotation ∷ m .case .drift ∷ []
 
 -- the record of some numbers in the order of its line's fields
 abbrev pub headerBy : (ℕ → ℕ) → Header
@@ -157,34 +105,22 @@ memberBy f =
       factor = f 15;
       damage = f 16;
       nd = f 17;
-      case = record {
-        nk = f 18;
-        me = f 19;
-        mp = f 20;
-        ve = f 21;
-        vr = f 22;
-        shear = f 23;
-        rotation = f 24;
-        drift = f 25;
-      };
+      case = record { nk = f 18; me = f 19; mp = f 20; ve = f 21; vr = f 22; shear = f 23; rotation = f 24; drift = f 25 };
     }
 
 -- the first refusal of a record by itself, 0 where there is none.
 -- A header: 3, a field outside its range; 7, H_T > 30,000 or n_s > 10
 unfoldable pub headerFault : Header → ℕ
-headerFault h =
-    pick (every (inRange B (headerValues h)) 6)
-    (pick (leb (h .height) 30_000 && leb (h .storeys) 10) 0 7)
-    3
+headerFault h = pick (everyBelow (inRange B (headerValues h)) 6) (pick (leb (h .height) 30_000 && leb (h .storeys) 10) 0 7) 3
 
 -- a storey: 3
 unfoldable pub storeyFault : Storey → ℕ
-storeyFault s = pick (every (inRange S (storeyValues s)) 3) 0 3
+storeyFault s = pick (everyBelow (inRange S (storeyValues s)) 3) 0 3
 
 -- a member: 3; 4, short side above long side
 unfoldable pub memberFault : Member → ℕ
-memberFault m = pick (every (inRange M (memberValues m)) 26) (pick (leb (m .short) (m .long)) 0 4) 3
+memberFault m = pick (everyBelow (inRange M (memberValues m)) 26) (pick (leb (m .short) (m .long)) 0 4) 3
 
 -- 5, a number repeated: that of record k is one of those before it
 abbrev pub repeated : (ℕ → ℕ) → ℕ → ℕ
-repeated number k = pick (any (λ e. eqb (number e) (number k)) k) 5 0
+repeated number k = pick (anyBelow (λ e. eqb (number e) (number k)) k) 5 0

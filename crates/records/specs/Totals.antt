@@ -9,9 +9,9 @@ total f [] = 0
 total f (x ∷ xs) = f x + total f xs
 
 -- the test holds of some element of a list
-unfoldable pub some : {A : Type 0} → (A → Bool) → List A → Bool
-some p [] = false
-some p (x ∷ xs) = p x || some p xs
+unfoldable pub anyOf : {A : Type 0} → (A → Bool) → List A → Bool
+anyOf p [] = false
+anyOf p (x ∷ xs) = p x || anyOf p xs
 
 -- f 0, f 1, .. f (n - 1)
 unfoldable pub listed : {A : Type 0} → (ℕ → A) → ℕ → List A

@@ -3,7 +3,7 @@ ghost use mathlib.Core.Path.{_≡_};
 ghost use mathlib.Core.Bool.{_&&_, _||_};
 ghost use lib.Dec.{leb, eqb};
 ghost use lib.ListN.{getD};
-ghost use Rattle.records.specs.First.{every};
+ghost use Rattle.records.specs.First.{everyBelow};
 ghost use Rattle.records.specs.declared.Tag.the-variants.{M};
 ghost use Rattle.records.specs.Records.{never, allows, headerRanges, storeyRanges, memberRanges, ranges, fields, inRange, headerFault, storeyFault, memberFault};
 use crate::Header;
@@ -153,7 +153,7 @@ pub fn field_count(tag: Tag) -> usize
 
 // Every field of a record is in its range; what stands after the line's fields does not count.
 fn in_ranges(tag: Tag, vs: [u64; 26]) -> bool
-    ensures { λ r. ⌜ r ≡ every (inRange tag vs) (fields tag) ⌝ }
+    ensures { λ r. ⌜ r ≡ everyBelow (inRange tag vs) (fields tag) ⌝ }
 {
     let n = field_count(tag);
     let storeys = vs[2];
@@ -206,7 +206,7 @@ pub fn storey_fault(s: Storey) -> u64
 
 // Every field of a member is in its range: the tables are laid out once.
 fn member_in_ranges(vs: [u64; 26]) -> bool
-    ensures { λ r. ⌜ r ≡ every (inRange M vs) 26 ⌝ }
+    ensures { λ r. ⌜ r ≡ everyBelow (inRange M vs) 26 ⌝ }
 {
     let least = MEMBER_LEAST;
     let most = MEMBER_MOST;

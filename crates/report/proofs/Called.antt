@@ -3,7 +3,7 @@ use Prim.Native.Nat.{ℕ, zero, suc, _+_, _*_, _-_, _≤_}
 use native.Mathlib.Omega.{arith}
 use mathlib.Core.Bool.{Bool, true, false}
 use mathlib.Core.List.{List, [], _∷_}
-use mathlib.Core.Path.{_≡_, refl, sym, _∙_}
+use mathlib.Core.Path.{_≡_, refl, sym, _∙_, ap}
 use lib.Dec.{leb, eqb}
 use lib.ListN.{length, length-append}
 use borrow.Author.Tests.{eq-eqb, ne-eqb, eqb-true, leb-true}
@@ -17,11 +17,13 @@ use Rattle.storeys.specs.Building.{storeyIn, membersBefore, membersOf, tilted, 
 use Rattle.storeys.specs.declared.BuildingFinding.{BuildingFinding}
 use Rattle.storeys.specs.declared.BuildingAnswer.{BuildingAnswer}
 use Rattle.storeys.specs.declared.BuildingAnswer.the-variants as building-answer
+use Rattle.storeys.proofs.Returned.{answer-same}
 use Rattle.storeys.proofs.Refusals.{None, one, rest, in-order-clear}
 use Rattle.report.specs.declared.ReportAnswer.{ReportAnswer}
 use Rattle.report.specs.declared.ReportAnswer.the-variants.{Written, Refused}
-use Rattle.columns.specs.Line.{stamped}
-use Rattle.report.specs.Sheet.{buildingLine, lineOf, storeyLines, storeysLines, sheet, sizeOf, Few, faultBy, lengthFault, reportFault, reportAnswer, bufferAfter}
+use Rattle.columns.specs.Bytes.{stamped}
+use Rattle.report.specs.Sheet.{buildingLine, storeyLines, storeysLines, sheet, lengthFault, reportFault, reportAnswer, bufferAfter, returnedReport, reportReturned}
+use Rattle.report.specs.Printing.{lineOf, sizeOf, Few, faultBy}
 use Rattle.columns.proofs.Stamps.{stamped-both, stamped-front}
 use Rattle.report.proofs.Rows.{length-building-line, length-storey-lines}
 use Rattle.report.proofs.Survey.{storeys-most, members-most, before-end, part-length}
@@ -73,11 +75,11 @@ line-judged b f e = rw e
 module _ (h : Header) (ss : List Storey) (ms : List Member) (b : BuildingAnswer) (says : Answers publishedRules h ss ms b) where
   judged : eqb (buildingFault publishedRules h ss ms) 0 ≡ true → b ≡ building-answer.Judged (buildingFinding publishedRules h ss ms (placeIn b))
   unfolding buildingAnswerBy
-  judged e = says .same ∙ rw e
+  judged e = answer-same publishedRules h ss ms b says ∙ rw e
 
   refused-by : eqb (buildingFault publishedRules h ss ms) 0 ≡ false → b ≡ building-answer.Refused (buildingFault publishedRules h ss ms)
   unfolding buildingAnswerBy
-  refused-by e = says .same ∙ rw e
+  refused-by e = answer-same publishedRules h ss ms b says ∙ rw e
 
   few-by : (t : Bool) → eqb (buildingFault publishedRules h ss ms) 0 ≡ t → Few b (length ss) (length ms)
   few-by true e =
@@ -105,9 +107,9 @@ module _ (h : Header) (ss : List Storey) (ms : List Member) (b : BuildingAnswer)
 -- ---- a refusal
 module _ (h : Header) (ss : List Storey) (ms : List Member) (before : List ℕ) (z : ℕ) (e : z ≡ reportFault h ss ms (length before)) where
   module _ (ne : z ≡ 0 → ⊥) where
-    pub answer-refused : (r : ReportAnswer) → r ≡ Refused z → r ≡ reportAnswer h ss ms (length before)
+    pub answer-refused : (r : ReportAnswer) → r ≡ Refused z → returnedReport r ≡ reportReturned h ss ms (length before)
     unfolding reportAnswer
-    answer-refused r q = q ∙ rw (← e) (simp (ne-eqb z 0 ne))
+    answer-refused r q = ap returnedReport q ∙ rw (← e) (simp (ne-eqb z 0 ne))
 
     pub buffer-refused : before ≡ bufferAfter h ss ms before
     unfolding bufferAfter
@@ -128,9 +130,9 @@ module _ (h : Header) (ss : List Storey) (ms : List Member) (before : List ℕ) 
     pub room-enough : sizeOf (length ss) (length ms) ≤ length before
     room-enough = omega (arith, sheet-fits, length-sheet h ss ms building-clear)
 
-    pub answer-written : (r : ReportAnswer) (n : ℕ) → r ≡ Written n → n ≡ sizeOf (length ss) (length ms) → r ≡ reportAnswer h ss ms (length before)
+    pub answer-written : (r : ReportAnswer) (n : ℕ) → r ≡ Written n → n ≡ sizeOf (length ss) (length ms) → returnedReport r ≡ reportReturned h ss ms (length before)
     unfolding reportAnswer
-    answer-written r n q l = q ∙ rw (← e, eq-eqb z 0 zero-fault, length-sheet h ss ms building-clear, l)
+    answer-written r n q l = ap returnedReport q ∙ rw (← e, eq-eqb z 0 zero-fault, length-sheet h ss ms building-clear, l)
 
     pub buffer-written : (b : BuildingAnswer) → Answers publishedRules h ss ms b → (filled ended : List ℕ) (p : ℕ) → filled ≡ stamped before 0 (storeysLines (h .knowledge) ss ms 0 (length ss)) → p ≡ 86 * length ms + 74 * length ss → ended ≡ stamped filled p (lineOf b) → ended ≡ bufferAfter h ss ms before
     unfolding bufferAfter sheet

@@ -6,3 +6,4 @@ pub mod Says
 pub mod Called
 pub mod Example
 pub mod Reordered
+pub mod Returned

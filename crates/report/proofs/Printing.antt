@@ -14,9 +14,11 @@ use Rattle.storeys.specs.declared.StoreyAnswer.the-variants as storey-answer
 use Rattle.storeys.specs.declared.BuildingFinding.{BuildingFinding}
 use Rattle.storeys.specs.declared.BuildingAnswer.{BuildingAnswer}
 use Rattle.storeys.specs.declared.BuildingAnswer.the-variants as building-answer
-use Rattle.columns.specs.Line.{line, stamped, putAt, placeAfter}
+use Rattle.columns.specs.Line.{line}
+use Rattle.columns.specs.Bytes.{stamped, putAt, placeAfter}
 use Rattle.columns.proofs.Stamps.{length-line, put-fits, place-fits}
-use Rattle.report.specs.Sheet.{memberLine, storeyLine, buildingLine, refusalLine, lineOf, noFinding, findingIn, faultBy, sizeOf, Few}
+use Rattle.report.specs.Sheet.{memberLine, storeyLine, buildingLine, refusalLine}
+use Rattle.report.specs.Printing.{lineOf, noFinding, findingIn, faultBy, sizeOf, Few}
 
 pub member-line-is : (number c o : ℕ) (f : Finding) → c ≡ code (f .class) → o ≡ flag (f .over) → line (77 ∷ []) (number ∷ c ∷ f .m .0 ∷ f .«m_limit» .0 ∷ f .rotation .0 ∷ f .«rotation_limit» .0 ∷ o ∷ []) ≡ memberLine number f
 unfolding memberLine

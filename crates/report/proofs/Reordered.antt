@@ -6,12 +6,12 @@ use mathlib.Core.List.{List, [], _∷_, _++_, map, append-assoc, List·Permᴰ, 
 use mathlib.Core.Path.{_≡_, refl, ap, _∙_}
 use lib.Dec.{eqb}
 use lib.ListN.{length}
-use Rattle.records.specs.First.{any}
+use Rattle.records.specs.First.{anyBelow}
 use Rattle.records.specs.declared.Header.{Header}
 use Rattle.records.specs.declared.Storey.{Storey}
 use Rattle.records.specs.declared.Member.{Member}
 use Rattle.members.specs.Finding.{axialRatioD, finding, flag}
-use Rattle.records.specs.Totals.{total, some}
+use Rattle.records.specs.Totals.{total, anyOf}
 use Rattle.storeys.specs.Storey.{publishedRules, wallShear, meetsWallShare, axialTotal, over, shearIfOver, overShear, someOver, damaged, riskyByDamage, storeyRisky, storeyFinding}
 use Rattle.storeys.specs.Building.{storeyIn, membersOf, riskyAt, tilted, someRisky, buildingRisky}
 use Rattle.report.specs.Sheet.{memberLine, storeyLine, buildingLine, memberLines, storeyLines, storeysLines, sheet}
@@ -50,11 +50,11 @@ or-other true false c = refl
 or-other false true c = refl
 or-other false false c = refl
 
-some-same : {A : Type 0} (f : A → Bool) {xs ys : List A} → List·Permᴰ xs ys → some f xs ≡ some f ys
-unfolding some
+some-same : {A : Type 0} (f : A → Bool) {xs ys : List A} → List·Permᴰ xs ys → anyOf f xs ≡ anyOf f ys
+unfolding anyOf
 some-same f List·Permᴰ·nil = refl
 some-same f (List·Permᴰ·cons e p) = rw (e, some-same f p)
-some-same f (List·Permᴰ·swap {a = a} {b = b} {l = l} e g) = rw (← e, ← g) (or-other (f a) (f b) (some f l))
+some-same f (List·Permᴰ·swap {a = a} {b = b} {l = l} e g) = rw (← e, ← g) (or-other (f a) (f b) (anyOf f l))
 some-same f (List·Permᴰ·trans p q) = some-same f p ∙ some-same f q
 
 length-same : {A : Type 0} {xs ys : List A} → List·Permᴰ xs ys → length xs ≡ length ys
@@ -121,8 +121,8 @@ pub data OtherOrders : List ℕ → List ℕ → Type 0 where
   same : {rest : List ℕ} → OtherOrders rest rest
   part : {k : ℕ} {s : Storey} {ms ns : List Member} {rest later : List ℕ} → OtherOrder k s ms ns → OtherOrders rest later → OtherOrders (storeyLines k s ms ++ rest) (storeyLines k s ns ++ later)
 
-any-same : (f g : ℕ → Bool) (n : ℕ) → ((i : ℕ) → f i ≡ g i) → any f n ≡ any g n
-unfolding any
+any-same : (f g : ℕ → Bool) (n : ℕ) → ((i : ℕ) → f i ≡ g i) → anyBelow f n ≡ anyBelow g n
+unfolding anyBelow
 any-same f g zero e = refl
 any-same f g (suc n) e = rw (any-same f g n e, e n)
 

@@ -17,10 +17,13 @@ use Rattle.members.specs.Finding.{finding, knowledge}
 use Rattle.members.specs.declared.finding.Finding.{Finding}
 use Rattle.storeys.specs.declared.StoreyFinding.{StoreyFinding}
 use Rattle.storeys.specs.declared.StoreyAnswer.{StoreyAnswer}
-use Rattle.storeys.specs.Storey.{publishedRules, meetsWallShare, overShear, storeyFinding, countFault, knowledgeFault, shearFault, noMember, memberIn, rowFault, memberRowsFault, storeyCallFault, storeyAnswerBy, storeyAnswer}
+use Rattle.storeys.specs.Storey.{publishedRules, meetsWallShare, overShear, storeyFinding, countFault, knowledgeFault, shearFault, memberIn, rowFault, memberRowsFault, storeyCallFault, storeyAnswerBy, storeyAnswer, returnedStorey, storeyReturned}
+use Rattle.records.specs.Blank.{noMember}
+use Rattle.storeys.proofs.Returned.{storey-answer-is}
 use Rattle.storeys.proofs.Refusals.{None, one, rest, in-order-clear, first-clear}
-use Rattle.columns.specs.Line.{stamped}
-use Rattle.report.specs.Sheet.{memberColumns, storeyColumns, buildingColumns, memberLine, storeyLine, buildingLine, memberLines, storeyLines, findingIn}
+use Rattle.columns.specs.Bytes.{stamped}
+use Rattle.report.specs.Sheet.{memberColumns, storeyColumns, buildingColumns, memberLine, storeyLine, buildingLine, memberLines, storeyLines}
+use Rattle.report.specs.Printing.{findingIn}
 use Rattle.columns.proofs.Stamps.{stamped-none, stamped-both, length-line}
 
 -- ---- lengths
@@ -83,9 +86,9 @@ module _ (k : ℕ) (s : Storey) (rows : List Member) (none : storeyCallFault pub
   pub storey-rows : memberRowsFault rows ≡ 0
   storey-rows = one (rest (rest (rest clear)))
 
-  pub storey-found : (a : StoreyAnswer) (f : StoreyFinding) → a ≡ storeyAnswer k s rows → f ≡ findingIn a → f ≡ storeyFinding publishedRules k (s .shear) rows
+  pub storey-found : (a : StoreyAnswer) (f : StoreyFinding) → returnedStorey a ≡ storeyReturned k s rows → f ≡ findingIn a → f ≡ storeyFinding publishedRules k (s .shear) rows
   unfolding storeyAnswerBy
-  storey-found a f e q = q ∙ rw (e, eq-eqb _ _ none)
+  storey-found a f e q = q ∙ rw (storey-answer-is a (storeyAnswer k s rows) e, eq-eqb _ _ none)
 
   pub storey-done : (bytes filled ended : List ℕ) (at p : ℕ) (met : Bool) (f : StoreyFinding) → f ≡ storeyFinding publishedRules k (s .shear) rows → met ≡ f .«walls_suffice» → filled ≡ stamped bytes at (memberLines k met rows) → p ≡ at + 86 * length rows → ended ≡ stamped filled p (storeyLine (s .number) f) → ended ≡ stamped bytes at (storeyLines k s rows)
   unfolding storeyLines storeyFinding

@@ -19,8 +19,8 @@ use Rattle.storeys.specs.Building.{buildingFault}
 use Rattle.walk.proofs.Fn.{Plain}
 use Rattle.walk.proofs.Slice.{R, taken, made}
 use Rattle.records.proofs.Structs.{header, member, storey}
-use Rattle.columns.specs.Line.{stamped}
-use Rattle.report.specs.Sheet.{memberLines, storeyLines, storeysLines, reportAnswer, bufferAfter}
+use Rattle.columns.specs.Bytes.{stamped}
+use Rattle.report.specs.Sheet.{memberLines, storeyLines, storeysLines, returnedReport, reportReturned, bufferAfter}
 use Rattle.report.proofs.Structs.{reportjudgment}
 
 abbrev pub bytes : RattleType
@@ -67,7 +67,7 @@ abbrev pub write-report : Plain {n = 3} (taken header ∷ pShrS (R storey) 0 tt 
 write-report = record {
   requires = λ κs a. [];
   ensures = λ κs a z e.
-      (z .answer ≡ reportAnswer (a .0) (a .1 .0 .now) (a .1 .1 .0 .now) (length (a .1 .1 .1 .0 .now)))
+      (returnedReport (z .answer) ≡ reportReturned (a .0) (a .1 .0 .now) (a .1 .1 .0 .now) (length (a .1 .1 .1 .0 .now)))
       ∷ (e .1 .1 .1 .0 .now ≡ bufferAfter (a .0) (a .1 .0 .now) (a .1 .1 .0 .now) (a .1 .1 .1 .0 .now))
       ∷ [];
 }

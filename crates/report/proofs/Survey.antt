@@ -8,7 +8,7 @@ use mathlib.Core.Path.{_≡_, refl, sym, _∙_}
 use lib.Dec.{leb}
 use lib.ListN.{length, take, drop}
 use borrow.Author.Tests.{eq-eqb, leb-true}
-use Rattle.records.specs.First.{pick, every, first}
+use Rattle.records.specs.First.{pick, everyBelow, first}
 use Rattle.records.specs.Records.{headerValues, inRange, headerFault, storeyFault, repeated}
 use Rattle.records.specs.declared.Header.{Header}
 use Rattle.records.specs.declared.Storey.{Storey}
@@ -22,7 +22,7 @@ use Rattle.storeys.specs.Building.{storeyIn, membersBefore, membersOf, countsFa
 use Rattle.storeys.proofs.Refusals.{None, end, also, one, rest, in-order-clear, in-order-none, first-clear, count-clear}
 use Rattle.storeys.proofs.Accepted.{before-next, members-counted, known-level}
 use Rattle.storeys.proofs.BuildingRows.{next-within, part-is}
-use Rattle.columns.specs.Line.{stamped}
+use Rattle.columns.specs.Bytes.{stamped}
 use Rattle.report.specs.Sheet.{storeyLines, storeysLines}
 use Rattle.columns.proofs.Stamps.{stamped-none, stamped-both}
 use Rattle.report.proofs.Rows.{length-storey-lines}
@@ -36,7 +36,7 @@ before-all (s ∷ ss) = omega (arith, before-next s ss (length ss), before-all s
 header-most : (h : Header) → headerFault h ≡ 0 → h .count ≤ 10
 unfolding headerFault
 header-most h e =
-    let t = clear (every (inRange B (headerValues h)) 6) (pick (leb (h .height) 30_000 && leb (h .storeys) 10) 0 7) 3 e (omega arith) in
+    let t = clear (everyBelow (inRange B (headerValues h)) 6) (pick (leb (h .height) 30_000 && leb (h .storeys) 10) 0 7) 3 e (omega arith) in
     let u = clear (leb (h .height) 30_000 && leb (h .storeys) 10) 0 7 (t .1) (omega arith) .0 in
     let a = leb-true (h .storeys) 10 (and-right (leb (h .height) 30_000) (leb (h .storeys) 10) u) in
     let b = leb-true (h .count) (h .storeys) (and-right (leb 1 (h .count)) (leb (h .count) (h .storeys)) (every-at (inRange B (headerValues h)) 6 5 (t .0) (omega arith))) in

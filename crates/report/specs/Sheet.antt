@@ -1,13 +1,11 @@
 -- The printed sheet and the report call (document 01, "The printed sheet", "Refusals as returned"): any header with any rows of storeys and members, and a
 -- buffer of any length.
-use Prim.Native.Nat.{ℕ, zero, suc, _+_, _*_, _≤_}
-use mathlib.Core.Bool.{Bool, true, false}
+use Prim.Native.Nat.{ℕ, zero, suc, _+_}
+use mathlib.Core.Bool.{Bool}
 use mathlib.Core.List.{List, [], _∷_, _++_}
-use mathlib.Core.Path.{_≡_}
 use lib.Dec.{leb, eqb}
 use lib.ListN.{length, drop}
 use Rattle.records.specs.First.{pick, inOrder}
-use Rattle.records.specs.Records.{memberFault}
 use Rattle.records.specs.declared.Header.{Header}
 use Rattle.records.specs.declared.Storey.{Storey}
 use Rattle.records.specs.declared.Member.{Member}
@@ -17,25 +15,13 @@ use Rattle.members.specs.declared.finding.Finding.{Finding}
 use Rattle.storeys.specs.Storey.{publishedRules, meetsWallShare, storeyFinding}
 use Rattle.storeys.specs.Building.{storeyIn, membersOf, tilted, buildingRisky, buildingFault}
 use Rattle.storeys.specs.declared.StoreyFinding.{StoreyFinding}
-use Rattle.storeys.specs.declared.StoreyAnswer.{StoreyAnswer}
-use Rattle.storeys.specs.declared.StoreyAnswer.the-variants as storey-answer
-use Rattle.storeys.specs.declared.BuildingAnswer.{BuildingAnswer}
-use Rattle.storeys.specs.declared.BuildingAnswer.the-variants as building-answer
 use Rattle.report.specs.declared.ReportAnswer.{ReportAnswer}
 use Rattle.report.specs.declared.ReportAnswer.the-variants.{Written, Refused}
 use Rattle.columns.specs.Line.{line}
 
 -- "number, class (1 to 3 columns A to C, 4 and 5 walls A and B), m, its limit, rotation, its limit, over (0 or 1)"
 abbrev pub memberColumns : ℕ → Finding → List ℕ
-memberColumns number f =
-    number
-    ∷ code (f .class)
-    ∷ f .m .0
-    ∷ f .«m_limit» .0
-    ∷ f .rotation .0
-    ∷ f .«rotation_limit» .0
-    ∷ flag (f .over)
-    ∷ []
+memberColumns number f = number ∷ code (f .class) ∷ f .m .0 ∷ f .«m_limit» .0 ∷ f .rotation .0 ∷ f .«rotation_limit» .0 ∷ flag (f .over) ∷ []
 
 -- "number, Σ, c, P, W, Risky"
 abbrev pub storeyColumns : ℕ → StoreyFinding → List ℕ
@@ -66,8 +52,7 @@ memberLines k met (m ∷ ms) = memberLine (m .number) (finding k met m) ++ membe
 
 -- "Per storey, its `M` lines", "Then `S`"
 unfoldable pub storeyLines : ℕ → Storey → List Member → List ℕ
-storeyLines k s ms =
-    memberLines k (meetsWallShare (s .shear) ms) ms ++ storeyLine (s .number) (storeyFinding publishedRules k (s .shear) ms)
+storeyLines k s ms = memberLines k (meetsWallShare (s .shear) ms) ms ++ storeyLine (s .number) (storeyFinding publishedRules k (s .shear) ms)
 
 -- the lines of n storeys from storey i on
 unfoldable pub storeysLines : ℕ → List Storey → List Member → ℕ → ℕ → List ℕ
@@ -76,8 +61,7 @@ storeysLines k ss ms i (suc n) = storeyLines k (storeyIn ss i) (membersOf ss ms 
 
 -- the printed sheet: the storeys, "Last `B`"
 unfoldable pub sheet : Header → List Storey → List Member → List ℕ
-sheet h ss ms =
-    storeysLines (h .knowledge) ss ms 0 (length ss) ++ buildingLine (tilted h) (buildingRisky publishedRules h ss ms)
+sheet h ss ms = storeysLines (h .knowledge) ss ms 0 (length ss) ++ buildingLine (tilted h) (buildingRisky publishedRules h ss ms)
 
 -- 9, "report longer than its buffer"
 abbrev pub lengthFault : ℕ → ℕ → ℕ
@@ -88,8 +72,7 @@ unfoldable pub reportFault : Header → List Storey → List Member → ℕ → 
 reportFault h ss ms room = inOrder (buildingFault publishedRules h ss ms ∷ lengthFault (length (sheet h ss ms)) room ∷ [])
 
 unfoldable pub reportAnswer : Header → List Storey → List Member → ℕ → ReportAnswer
-reportAnswer h ss ms room =
-    pick (eqb (reportFault h ss ms room) 0) (Written (length (sheet h ss ms))) (Refused (reportFault h ss ms room))
+reportAnswer h ss ms room = pick (eqb (reportFault h ss ms room) 0) (Written (length (sheet h ss ms))) (Refused (reportFault h ss ms room))
 
 -- what each case of the answer says: "the report gives its length"
 abbrev pub returnedReport : ReportAnswer → Returned
@@ -102,37 +85,4 @@ reportReturned h ss ms room = returnedReport (reportAnswer h ss ms room)
 
 -- the buffer afterwards: the sheet "from the front" and the bytes after it unchanged; all of it unchanged by a refusal
 unfoldable pub bufferAfter : Header → List Storey → List Member → List ℕ → List ℕ
-bufferAfter h ss ms before =
-    pick (eqb (reportFault h ss ms (length before)) 0) (sheet h ss ms ++ drop (length (sheet h ss ms)) before) before
-
--- a member that is printed: k one of the two levels, the record good
-pub record Printed (k : ℕ) (m : Member) : Type 0 where
-  pub knowledge-level : knowledge k ≡ true
-  pub good : memberFault m ≡ 0
-
--- the finding in an answer on a storey; a refusal has none
-abbrev pub noFinding : StoreyFinding
-noFinding = record { «axial_total» = 0; members = 0; «over_shear» = 0; shear = 0; risky = false; «walls_suffice» = false }
-
-abbrev pub findingIn : StoreyAnswer → StoreyFinding
-findingIn (storey-answer.Judged f) = f
-findingIn (storey-answer.Refused n) = noFinding
-
--- the `B` line of an answer on a building; a refusal has none
-abbrev pub lineOf : BuildingAnswer → List ℕ
-lineOf (building-answer.Judged f) = buildingLine (f .tilted) (f .risky)
-lineOf (building-answer.Refused n) = []
-
--- a sheet's length, by the rows that it prints
-abbrev pub sizeOf : ℕ → ℕ → ℕ
-sizeOf storeys members = 86 * members + 74 * storeys + 26
-
--- a judged building has few rows
-abbrev pub Few : BuildingAnswer → ℕ → ℕ → Type 0
-Few (building-answer.Judged f) storeys members = (storeys ≤ 10) × (members ≤ 2_000)
-Few (building-answer.Refused n) storeys members = Unit
-
--- an answer's refusal, then 9
-abbrev pub faultBy : BuildingAnswer → ℕ → ℕ → ℕ → ℕ
-faultBy (building-answer.Judged f) storeys members room = lengthFault (sizeOf storeys members) room
-faultBy (building-answer.Refused n) storeys members room = n
+bufferAfter h ss ms before = pick (eqb (reportFault h ss ms (length before)) 0) (sheet h ss ms ++ drop (length (sheet h ss ms)) before) before

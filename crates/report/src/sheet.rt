@@ -6,8 +6,8 @@ ghost use lib.ListN.{length};
 ghost use Rattle.members.specs.Finding.{knowledge};
 ghost use Rattle.storeys.specs.Storey.{publishedRules, memberRowsFault, storeyCallFault};
 ghost use Rattle.storeys.specs.Building.{buildingFault};
-ghost use Rattle.columns.specs.Line.{stamped};
-ghost use Rattle.report.specs.Sheet.{memberLines, storeyLines, storeysLines, reportAnswer, bufferAfter};
+ghost use Rattle.columns.specs.Bytes.{stamped};
+ghost use Rattle.report.specs.Sheet.{memberLines, storeyLines, storeysLines, returnedReport, reportReturned, bufferAfter};
 use crate::ReportJudgment;
 use crate::printed::finding_in;
 use crate::printed::put_building;
@@ -78,7 +78,7 @@ pub fn write_report(
     members: &[Member],
     out: &mut [u8],
 ) -> ReportJudgment
-    ensures { λ r. ⌜ r .answer ≡ reportAnswer h (now (storeys .entry)) (now (members .entry)) (length (now (out .entry))) ⌝ }
+    ensures { λ r. ⌜ returnedReport (r .answer) ≡ reportReturned h (now (storeys .entry)) (now (members .entry)) (length (now (out .entry))) ⌝ }
     ensures { λ _. ⌜ now (out .exit) ≡ bufferAfter h (now (storeys .entry)) (now (members .entry)) (now (out .entry)) ⌝ }
 {
     let r = judge_building(h, storeys, members);

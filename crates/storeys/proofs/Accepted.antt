@@ -6,7 +6,7 @@ use mathlib.Core.Bool.{true}
 use mathlib.Core.List.{List, [], _∷_}
 use mathlib.Core.Path.{_≡_, refl}
 use lib.ListN.{length, drop, length-take, length-drop}
-use Rattle.records.specs.First.{every, first}
+use Rattle.records.specs.First.{everyBelow, first}
 use Rattle.records.specs.Records.{inRange, headerValues, headerFault, storeyFault, repeated}
 use Rattle.records.specs.declared.Header.{Header}
 use Rattle.records.specs.declared.Storey.{Storey}
@@ -46,7 +46,7 @@ members-counted ss ms i e =
 -- k is one of the two levels
 pub header-known : (h : Header) → headerFault h ≡ 0 → knowledge (h .knowledge) ≡ true
 unfolding headerFault
-header-known h e = every-at (inRange B (headerValues h)) 6 0 (clear (every (inRange B (headerValues h)) 6) _ 3 e (omega arith) .0) (omega arith)
+header-known h e = every-at (inRange B (headerValues h)) 6 0 (clear (everyBelow (inRange B (headerValues h)) 6) _ 3 e (omega arith) .0) (omega arith)
 
 module _ (rules : Rules) (h : Header) (ss : List Storey) (ms : List Member) (none : buildingFault rules h ss ms ≡ 0) where
   pub checks : None (countsFault h ss ms ∷ headerFault h ∷ first 0 (λ n. n) (storeyRowsFault ss ms) (length ss) ∷ first 0 (λ n. n) (shearFaultAt rules (h .knowledge) ss ms) (length ss) ∷ [])

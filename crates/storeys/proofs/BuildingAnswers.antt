@@ -8,7 +8,7 @@ use mathlib.Core.Path.{_≡_, refl, ap, sym, _∙_}
 use lib.Dec.{ltb, eqb}
 use lib.ListN.{length}
 use borrow.Author.Tests.{eqb-true, eqb-false, eq-eqb, ne-eqb, lt-ltb}
-use Rattle.records.specs.First.{pick, any, inOrder, first}
+use Rattle.records.specs.First.{pick, anyBelow, inOrder, first}
 use Rattle.records.specs.Records.{headerFault}
 use Rattle.records.specs.declared.Header.{Header}
 use Rattle.records.specs.declared.Storey.{Storey}
@@ -27,7 +27,7 @@ use Rattle.storeys.proofs.Accepted.{header-known}
 
 -- the first of the numbers below n of which a test holds, counted from 1; 0 where there is none
 data Seen (p : ℕ → Bool) (n : ℕ) : ℕ → Type 0 where
-  nothing : any p n ≡ false → Seen p n 0
+  nothing : anyBelow p n ≡ false → Seen p n 0
   first-at : (i : ℕ) → i < n → p i ≡ true → Seen p n (i + 1)
 
 module _ (p : ℕ → Bool) where

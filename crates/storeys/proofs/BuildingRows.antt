@@ -8,7 +8,7 @@ use mathlib.Core.Path.{_≡_, refl, ap, sym, _∙_}
 use lib.Dec.{eqb}
 use lib.ListN.{length, take, drop}
 use borrow.Author.Tests.{eqb-true, eqb-false, eq-eqb, ne-eqb}
-use Rattle.records.specs.First.{pick, any, inOrder, first}
+use Rattle.records.specs.First.{pick, anyBelow, inOrder, first}
 use Rattle.records.specs.Records.{storeyFault, repeated}
 use Rattle.records.specs.declared.Storey.{Storey}
 use Rattle.records.specs.declared.Member.{Member}
@@ -73,17 +73,17 @@ module _ (ss : List Storey) (n v : ℕ) where
   abbrev has : ℕ → Bool
   has e = eqb (storeyIn ss e .number) v
 
-  pub repeat-none : any has 0 ≡ false
+  pub repeat-none : anyBelow has 0 ≡ false
   repeat-none = any-none has
 
-  pub repeat-next : (e x : ℕ) → x ≡ storeyIn ss e .number → any has e ≡ false → eqb x v ≡ false → any has (e + 1) ≡ false
+  pub repeat-next : (e x : ℕ) → x ≡ storeyIn ss e .number → anyBelow has e ≡ false → eqb x v ≡ false → anyBelow has (e + 1) ≡ false
   repeat-next e x g a f = any-more has e a (rw (← g) f)
 
-  pub repeat-found : (e x : ℕ) → x ≡ storeyIn ss e .number → e < n → eqb x v ≡ true → _≡_ {A = ℕ} 5 (pick (any has n) 5 0)
+  pub repeat-found : (e x : ℕ) → x ≡ storeyIn ss e .number → e < n → eqb x v ≡ true → _≡_ {A = ℕ} 5 (pick (anyBelow has n) 5 0)
   repeat-found e x g h f = let k : has e ≡ true = rw (← g) f in rw (any-holds has n e h k)
 
-  pub repeat-all : (e : ℕ) → any has e ≡ false → e ≤ n → n ≤ e → _≡_ {A = ℕ} 0 (pick (any has n) 5 0)
-  repeat-all e a h g = let q : e ≡ n = omega arith in let k : any has n ≡ false = rw (← q) a in rw k
+  pub repeat-all : (e : ℕ) → anyBelow has e ≡ false → e ≤ n → n ≤ e → _≡_ {A = ℕ} 0 (pick (anyBelow has n) 5 0)
+  repeat-all e a h g = let q : e ≡ n = omega arith in let k : anyBelow has n ≡ false = rw (← q) a in rw k
 
 -- ---- the members of a storey among the rows
 module _ (ss : List Storey) (ms : List Member) (i before c : ℕ) (e : before ≡ membersBefore ss i) (g : c ≡ storeyIn ss i .count) where
@@ -115,7 +115,7 @@ module _ (ss : List Storey) (ms : List Member) where
       sym (first-kept 0 (λ n. n) (storeyRowsFault ss ms) (i + 1) (length ss) (omega arith) (λ q. ne (sym f ∙ q)) ∙ f)
 
   module _ (i own x rep : ℕ) (s : Storey) (e : refusal i ≡ 0) (h : i < length ss) (d : s ≡ storeyIn ss i) (y : x ≡ s .number)
-      (z : rep ≡ pick (any (λ (j : ℕ). eqb (storeyIn ss j .number) x) i) 5 0) (o : own ≡ inOrder (storeyFault s ∷ rep ∷ [])) where
+      (z : rep ≡ pick (anyBelow (λ (j : ℕ). eqb (storeyIn ss j .number) x) i) 5 0) (o : own ≡ inOrder (storeyFault s ∷ rep ∷ [])) where
     own-is : own ≡ inOrder (storeyFault (storeyIn ss i) ∷ repeated (λ j. storeyIn ss j .number) i ∷ [])
     own-is = o ∙ rw (z, y, d)
 

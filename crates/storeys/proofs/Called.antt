@@ -7,7 +7,7 @@ use mathlib.Core.Path.{_≡_, refl, ap, sym, _∙_}
 use lib.Dec.{leb, eqb}
 use lib.ListN.{length, getD}
 use borrow.Author.Tests.{ne-eqb, eqb-true, leb-true}
-use Rattle.records.specs.First.{pick, every, inOrder}
+use Rattle.records.specs.First.{pick, everyBelow, inOrder}
 use Rattle.records.specs.Records.{storeyFault, storeyValues, inRange}
 use Rattle.records.specs.declared.Storey.{Storey}
 use Rattle.records.specs.declared.Member.{Member}
@@ -23,7 +23,8 @@ use Rattle.storeys.specs.declared.StoreyAnswer.{StoreyAnswer}
 use Rattle.storeys.specs.declared.StoreyAnswer.the-variants.{Refused}
 use Rattle.storeys.specs.declared.row.Tally.{Tally}
 use Rattle.records.specs.Totals.{total}
-use Rattle.storeys.specs.Storey.{publishedRules, wallShear, meetsWallShare, axialTotal, over, shearIfOver, overShear, storeyRisky, riskyByDamage, storeyFinding, countFault, knowledgeFault, shearFault, memberIn, noMember, memberRowsFault, storeyCallFault, storeyAnswerBy, storeyAnswer}
+use Rattle.storeys.specs.Storey.{publishedRules, wallShear, meetsWallShare, axialTotal, over, shearIfOver, overShear, storeyRisky, riskyByDamage, storeyFinding, countFault, knowledgeFault, shearFault, memberIn, memberRowsFault, storeyCallFault, storeyAnswerBy, storeyAnswer, returnedStorey, storeyReturned}
+use Rattle.records.specs.Blank.{noMember}
 use Rattle.storeys.specs.Tally.{tallyOf, Rows, Small, foundBy, headFault, judgedBy}
 use Rattle.storeys.proofs.Rows.{nd-most}
 use Rattle.storeys.proofs.Loops.{row-valid, pick-most}
@@ -32,7 +33,7 @@ use Rattle.storeys.proofs.Loops.{row-valid, pick-most}
 pub shear-most : (s : Storey) → storeyFault s ≡ 0 → s .shear ≤ 9_999_999
 unfolding storeyFault
 shear-most s e =
-    let t = clear (every (inRange S (storeyValues s)) 3) 0 3 e (omega arith) .0 in
+    let t = clear (everyBelow (inRange S (storeyValues s)) 3) 0 3 e (omega arith) .0 in
     leb-true (s .shear) 9_999_999 (and-right (leb 1 (s .shear)) (leb (s .shear) 9_999_999) (every-at (inRange S (storeyValues s)) 3 1 t (omega arith)))
 
 -- a total of bounded terms
@@ -83,15 +84,15 @@ module _ (k : ℕ) (s : Storey) (rows : List Member) (first : ℕ) (h : first �
   unfolding storeyAnswerBy
   refused-is n e ne = rw e (simp (ne-eqb n 0 ne))
 
-  pub head-refused : (a : StoreyAnswer) → (first ≡ 0 → ⊥) → a ≡ Refused first → a ≡ storeyAnswer k s rows
-  head-refused a ne q = q ∙ refused-is first (all-three ∙ rw (pick-other first (memberRowsFault rows) ne) (pick-other first (shearFault p) ne)) ne
+  pub head-refused : (a : StoreyAnswer) → (first ≡ 0 → ⊥) → a ≡ Refused first → returnedStorey a ≡ storeyReturned k s rows
+  head-refused a ne q = ap returnedStorey (q ∙ refused-is first (all-three ∙ rw (pick-other first (memberRowsFault rows) ne) (pick-other first (shearFault p) ne)) ne)
 
   module _ (z : first ≡ 0) (f : ℕ) (fp : f ≡ memberRowsFault rows) where
     after : storeyCallFault publishedRules k s rows ≡ pick (eqb f 0) (shearFault p) f
     after = all-three ∙ rw (pick-zero first (memberRowsFault rows) z, ← fp)
 
-    pub rows-refused : (a : StoreyAnswer) → (f ≡ 0 → ⊥) → a ≡ Refused f → a ≡ storeyAnswer k s rows
-    rows-refused a ne q = q ∙ refused-is f (after ∙ pick-other f (shearFault p) ne) ne
+    pub rows-refused : (a : StoreyAnswer) → (f ≡ 0 → ⊥) → a ≡ Refused f → returnedStorey a ≡ storeyReturned k s rows
+    rows-refused a ne q = ap returnedStorey (q ∙ refused-is f (after ∙ pick-other f (shearFault p) ne) ne)
 
     clear-head : inOrder (countFault (s .count) (length rows) ∷ knowledgeFault k ∷ storeyFault s ∷ []) ≡ 0
     clear-head = sym h ∙ z
@@ -128,5 +129,5 @@ module _ (k : ℕ) (s : Storey) (rows : List Member) (first : ℕ) (h : first �
       by-shear true x e q = rw (q, last-is) (simp e)
       by-shear false x e q = rw (q, last-is) (simp e)
 
-      pub judged-is : (a : StoreyAnswer) (x : StoreyFinding) → x ≡ storeyFinding publishedRules k (s .shear) rows → a ≡ judgedBy x → a ≡ storeyAnswer k s rows
-      judged-is a x q e = rw e (by-shear (leb p 9_999_999_999) x refl q)
+      pub judged-is : (a : StoreyAnswer) (x : StoreyFinding) → x ≡ storeyFinding publishedRules k (s .shear) rows → a ≡ judgedBy x → returnedStorey a ≡ storeyReturned k s rows
+      judged-is a x q e = ap returnedStorey (e ∙ by-shear (leb p 9_999_999_999) x refl q)

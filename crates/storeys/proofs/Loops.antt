@@ -8,7 +8,7 @@ use mathlib.Core.Path.{_≡_, refl, ap, sym, _∙_}
 use lib.Dec.{eqb}
 use lib.ListN.{length, drop, getD, drop-of-length-le}
 use lib.Seq.{drop-cons}
-use Rattle.records.specs.First.{pick, any, inOrder, first}
+use Rattle.records.specs.First.{pick, anyBelow, inOrder, first}
 use Rattle.records.specs.Records.{memberFault}
 use Rattle.records.specs.Valid.{Valid}
 use Rattle.records.specs.declared.Member.{Member}
@@ -18,8 +18,9 @@ use Rattle.records.proofs.Validity.{valid}
 use Rattle.members.specs.Units.{ratioCap}
 use Rattle.members.specs.Class.{isWall}
 use Rattle.members.specs.Finding.{axialRatioD, knowledge, flag}
-use Rattle.records.specs.Totals.{total, some}
-use Rattle.storeys.specs.Storey.{publishedRules, wallShear, axialTotal, over, shearIfOver, overShear, someOver, damaged, memberIn, noMember, rowFault, memberRowsFault}
+use Rattle.records.specs.Totals.{total, anyOf}
+use Rattle.storeys.specs.Storey.{publishedRules, wallShear, axialTotal, over, shearIfOver, overShear, someOver, damaged, memberIn, rowFault, memberRowsFault}
+use Rattle.records.specs.Blank.{noMember}
 use Rattle.storeys.specs.declared.row.Tally.{Tally}
 use Rattle.storeys.specs.Tally.{weightOf, noTally, added, tallyOf, Rows, AddsUp}
 use Rattle.storeys.proofs.Rows.{nd-most}
@@ -29,16 +30,16 @@ module _ (rows : List Member) (v n : ℕ) where
   abbrev same : ℕ → Bool
   same e = eqb (memberIn rows e .number) v
 
-  pub unseen : any same 0 ≡ false
+  pub unseen : anyBelow same 0 ≡ false
   unseen = any-none same
 
-  pub unseen-next : (e r : ℕ) → any same e ≡ false → r ≡ memberIn rows e .number → eqb r v ≡ false → any same (e + 1) ≡ false
+  pub unseen-next : (e r : ℕ) → anyBelow same e ≡ false → r ≡ memberIn rows e .number → eqb r v ≡ false → anyBelow same (e + 1) ≡ false
   unseen-next e r h p q = any-more same e h (rw p at q)
 
-  pub seen-here : (e r : ℕ) → e < n → r ≡ memberIn rows e .number → eqb r v ≡ true → _≡_ {A = ℕ} 5 (pick (any same n) 5 0)
+  pub seen-here : (e r : ℕ) → e < n → r ≡ memberIn rows e .number → eqb r v ≡ true → _≡_ {A = ℕ} 5 (pick (anyBelow same n) 5 0)
   seen-here e r h p q = rw (any-holds same n e h (rw p at q))
 
-  pub unseen-all : (e : ℕ) → any same e ≡ false → e ≤ n → n ≤ e → _≡_ {A = ℕ} 0 (pick (any same n) 5 0)
+  pub unseen-all : (e : ℕ) → anyBelow same e ≡ false → e ≤ n → n ≤ e → _≡_ {A = ℕ} 0 (pick (anyBelow same n) 5 0)
   unseen-all e h p q = let z : e ≡ n = omega arith in rw (rw z at h)
 
 -- ---- the first refusal of the members
@@ -46,7 +47,7 @@ module _ (rows : List Member) where
   pub clear-none : first 0 (λ r. r) (rowFault rows) 0 ≡ 0
   clear-none = first-none 0 (λ r. r) (rowFault rows)
 
-  module _ (j : ℕ) (n x f : ℕ) (c : first 0 (λ r. r) (rowFault rows) j ≡ 0) (np : n ≡ memberIn rows j .number) (xp : x ≡ pick (any (λ (e : ℕ). eqb (memberIn rows e .number) n) j) 5 0) (fp : f ≡ inOrder (memberFault (memberIn rows j) ∷ x ∷ [])) where
+  module _ (j : ℕ) (n x f : ℕ) (c : first 0 (λ r. r) (rowFault rows) j ≡ 0) (np : n ≡ memberIn rows j .number) (xp : x ≡ pick (anyBelow (λ (e : ℕ). eqb (memberIn rows e .number) n) j) 5 0) (fp : f ≡ inOrder (memberFault (memberIn rows j) ∷ x ∷ [])) where
     fault-is : f ≡ rowFault rows j
     unfolding rowFault
     fault-is = fp ∙ rw (xp, np)
@@ -74,12 +75,12 @@ module _ {A : Type 0} (f : A → ℕ) (d : A) where
   unfolding total
   total-end xs j h = rw (drop-of-length-le xs h)
 
-some-drop : {A : Type 0} (p : A → Bool) (d : A) (xs : List A) (j : ℕ) → j < length xs → some p (drop j xs) ≡ (p (getD xs j d) || some p (drop (j + 1) xs))
-unfolding some
+some-drop : {A : Type 0} (p : A → Bool) (d : A) (xs : List A) (j : ℕ) → j < length xs → anyOf p (drop j xs) ≡ (p (getD xs j d) || anyOf p (drop (j + 1) xs))
+unfolding anyOf
 some-drop p d xs j h = rw (add-one j, drop-cons xs j d h)
 
-some-end : {A : Type 0} (p : A → Bool) (xs : List A) (j : ℕ) → length xs ≤ j → some p (drop j xs) ≡ false
-unfolding some
+some-end : {A : Type 0} (p : A → Bool) (xs : List A) (j : ℕ) → length xs ≤ j → anyOf p (drop j xs) ≡ false
+unfolding anyOf
 some-end p xs j h = rw (drop-of-length-le xs h)
 
 pub pick-most : (t : Bool) (a n : ℕ) → a ≤ n → pick t a 0 ≤ n
@@ -165,7 +166,7 @@ module _ (k : ℕ) (met : Bool) (rows : List Member) where
     next-anyone : ((t .some || over publishedRules k met (memberIn rows j)) || someOver publishedRules k met (drop (j + 1) rows)) ≡ someOver publishedRules k met rows
     unfolding someOver
     next-anyone =
-        or-assoc (t .some) (over publishedRules k met (memberIn rows j)) (some (over publishedRules k met) (drop (j + 1) rows))
+        or-assoc (t .some) (over publishedRules k met (memberIn rows j)) (anyOf (over publishedRules k met) (drop (j + 1) rows))
         ∙ ap (λ (b : Bool). t .some || b) (sym (some-drop (over publishedRules k met) noMember rows j h))
         ∙ u .anyone
 

@@ -15,10 +15,11 @@ use Rattle.records.specs.Records.{memberFault}
 use Rattle.records.specs.declared.Member.{Member}
 use Rattle.records.proofs.Validity.{valid}
 use Rattle.members.specs.Units.{ratioCap}
+use Rattle.members.proofs.Returned.{answer-is}
 use Rattle.members.specs.declared.finding.Finding.{Finding}
 use Rattle.members.specs.declared.finding.MemberAnswer.{MemberAnswer}
 use Rattle.members.specs.declared.finding.MemberAnswer.the-variants.{Judged, Refused}
-use Rattle.members.specs.Finding.{axial, axialRatioD, finding, findingBy, knowledge, answerBy, memberAnswer}
+use Rattle.members.specs.Finding.{axial, axialRatioD, finding, findingBy, knowledge, answerBy, memberAnswer, returned, memberReturned}
 
 -- the first of two refusals
 pub two-first : (a b : ℕ) → (a ≡ 0 → ⊥) → a ≡ inOrder (a ∷ b ∷ [])
@@ -75,11 +76,11 @@ module _ (k : ℕ) (met : Bool) (m : Member) (h : knowledge k ≡ true) (g : mem
   unfolding answerBy
   judged-good = rw (h, g)
 
-  pub finding-same : (r : MemberAnswer) (f : Finding) → r ≡ memberAnswer k met m → r ≡ Judged f → f ≡ finding k met m
-  finding-same r f p q = let e = judged-good in cc
+  pub finding-same : (r : MemberAnswer) (f : Finding) → returned r ≡ memberReturned k met m → r ≡ Judged f → f ≡ finding k met m
+  finding-same r f p q = let e = judged-good in let a = answer-is r (memberAnswer k met m) p in cc
 
-  pub not-refused : (r : MemberAnswer) (n : ℕ) → r ≡ memberAnswer k met m → r ≡ Refused n → ⊥
-  not-refused r n p q = let e = judged-good in let z : _≡_ {A = ℕ} 0 1 = cc in omega arith
+  pub not-refused : (r : MemberAnswer) (n : ℕ) → returned r ≡ memberReturned k met m → r ≡ Refused n → ⊥
+  not-refused r n p q = let e = judged-good in let a = answer-is r (memberAnswer k met m) p in let z : _≡_ {A = ℕ} 0 1 = cc in omega arith
 
 pub nd-most : (m : Member) → axialRatioD m .0 ≤ ratioCap
 unfolding axial

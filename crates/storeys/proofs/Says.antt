@@ -11,11 +11,11 @@ use borrow.Fn.Kinds.{rNum, rBool}
 use borrow.Kind.Num.{pNum}
 use borrow.Kind.Bool.{pBool}
 use borrow.Kind.ShrSlice.{pShrS}
-use Rattle.records.specs.First.{pick, any, first}
+use Rattle.records.specs.First.{pick, anyBelow, first}
 use Rattle.records.specs.Records.{storeyFault}
 use Rattle.members.specs.Finding.{knowledge}
 use Rattle.records.specs.Totals.{total}
-use Rattle.storeys.specs.Storey.{publishedRules, wallShear, memberIn, memberRowsFault, storeyFinding, storeyAnswer}
+use Rattle.storeys.specs.Storey.{publishedRules, wallShear, memberIn, memberRowsFault, storeyFinding, returnedStorey, storeyReturned}
 use Rattle.storeys.specs.Tally.{tallyOf, Rows}
 use Rattle.storeys.specs.Building.{storeyIn, storeyRowsFault, Answers as Answered}
 use Rattle.storeys.specs.Verdict.{verdictOf, Counted, GoodRows}
@@ -27,7 +27,7 @@ use Rattle.storeys.proofs.Structs.{tally as tallied, storeyfinding, sto
 abbrev pub repeat-fault : Plain {n = 1} (pShrS (R member) 0 tt ∷ pNum w64 ∷ pNum w64 ∷ []) (rNum w64)
 repeat-fault = record {
   requires = λ κs a. (a .1 .0 ≤ length (a .0 .now)) ∷ [];
-  ensures = λ κs a z e. (z ≡ pick (any (λ (e : ℕ). eqb (memberIn (a .0 .now) e .number) (a .1 .1 .0)) (a .1 .0)) 5 0) ∷ [];
+  ensures = λ κs a z e. (z ≡ pick (anyBelow (λ (e : ℕ). eqb (memberIn (a .0 .now) e .number) (a .1 .1 .0)) (a .1 .0)) 5 0) ∷ [];
 }
 
 abbrev pub members-fault : Plain {n = 1} (pShrS (R member) 0 tt ∷ []) (rNum w64)
@@ -57,7 +57,7 @@ found = record {
 abbrev pub judge-storey : Plain {n = 1} (pNum w64 ∷ taken storey ∷ pShrS (R member) 0 tt ∷ []) (made storeyjudgment)
 judge-storey = record {
   requires = λ κs a. [];
-  ensures = λ κs a z e. (z .answer ≡ storeyAnswer (a .0) (a .1 .0) (a .1 .1 .0 .now)) ∷ [];
+  ensures = λ κs a z e. (returnedStorey (z .answer) ≡ storeyReturned (a .0) (a .1 .0) (a .1 .1 .0 .now)) ∷ [];
 }
 
 abbrev pub counts-fit : Plain {n = 1} (pShrS (R storey) 0 tt ∷ pNum w64 ∷ []) rBool
@@ -69,7 +69,7 @@ counts-fit = record {
 abbrev pub storey-repeat-fault : Plain {n = 1} (pShrS (R storey) 0 tt ∷ pNum w64 ∷ pNum w64 ∷ []) (rNum w64)
 storey-repeat-fault = record {
   requires = λ κs a. (a .1 .0 ≤ length (a .0 .now)) ∷ [];
-  ensures = λ κs a z e. (z ≡ pick (any (λ (e : ℕ). eqb (storeyIn (a .0 .now) e .number) (a .1 .1 .0)) (a .1 .0)) 5 0) ∷ [];
+  ensures = λ κs a z e. (z ≡ pick (anyBelow (λ (e : ℕ). eqb (storeyIn (a .0 .now) e .number) (a .1 .1 .0)) (a .1 .0)) 5 0) ∷ [];
 }
 
 abbrev pub rows-fault : Plain {n = 2} (pShrS (R storey) 0 tt ∷ pShrS (R member) 1 tt ∷ []) (rNum w64)

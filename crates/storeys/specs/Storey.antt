@@ -4,20 +4,21 @@ use mathlib.Core.Bool.{Bool, _&&_, _||_}
 use mathlib.Core.List.{List, [], _∷_}
 use lib.Dec.{leb, ltb, eqb}
 use lib.ListN.{length, getD}
+use Rattle.records.specs.Blank.{noMember}
 use Rattle.records.specs.First.{pick, inOrder, first}
 use Rattle.records.specs.Records.{storeyFault, memberFault, repeated}
 use Rattle.records.specs.declared.Storey.{Storey}
 use Rattle.records.specs.declared.Member.{Member}
 use Rattle.members.specs.Units.{shareFrom, shareTo}
 use Rattle.members.specs.Class.{isWall}
-use Rattle.members.specs.Tables.{two, published, orderedSet}
+use Rattle.members.specs.Tables.{two, published}
 use Rattle.members.specs.Finding.{axialRatioD, findingBy, knowledge, flag, Returned, refused}
 use Rattle.members.specs.declared.tables.Two.{Two}
 use Rattle.members.specs.declared.tables.LimitSet.{LimitSet}
 use Rattle.storeys.specs.declared.StoreyFinding.{StoreyFinding}
 use Rattle.storeys.specs.declared.StoreyAnswer.{StoreyAnswer}
 use Rattle.storeys.specs.declared.StoreyAnswer.the-variants.{Judged, Refused}
-use Rattle.records.specs.Totals.{total, some}
+use Rattle.records.specs.Totals.{total, anyOf}
 
 -- what a survey is judged by: the limits of the members, and the axial ratios per member between which the allowed share falls
 pub record Rules : Type 0 where
@@ -27,10 +28,6 @@ pub record Rules : Type 0 where
 -- the rules that document 01 publishes
 abbrev pub publishedRules : Rules
 publishedRules = record { limits = published; ends = two shareFrom shareTo }
-
--- rules that keep the order of the load: limits in order, and share ends that rise
-abbrev pub orderly : Rules → Bool
-orderly rules = orderedSet (rules .limits) && ltb (rules .ends .r1) (rules .ends .r2)
 
 -- the V of a wall, and of a column nothing
 abbrev pub wallShear : Member → ℕ
@@ -58,7 +55,7 @@ overShear rules k met ms = total (shearIfOver rules k met) ms
 
 -- "some member is over"
 unfoldable pub someOver : Rules → ℕ → Bool → List Member → Bool
-someOver rules k met ms = some (over rules k met) ms
+someOver rules k met ms = anyOf (over rules k met) ms
 
 -- "h being the numbers of members with each damage kind"
 unfoldable pub damaged : ℕ → List Member → ℕ
@@ -68,10 +65,7 @@ damaged kind ms = total (λ m. flag (eqb (m .damage) kind)) ms
 -- where 110,000 is 20 × (6,500 − 1,000)
 unfoldable pub exceedsShare : Two → ℕ → ℕ → ℕ → ℕ → Bool
 exceedsShare ends σ c p w =
-    pick (leb σ (ends .r1 * c))
-    (ltb (7 * w) (20 * p))
-    (pick (leb (ends .r2 * c) σ)
-    (ltb 0 p)
+    pick (leb σ (ends .r1 * c)) (ltb (7 * w) (20 * p)) (pick (leb (ends .r2 * c) σ) (ltb 0 p)
     (ltb (7 * w * (ends .r2 * c - σ)) (20 * (ends .r2 - ends .r1) * c * p)))
 
 -- "20 × h1 + 28 × h2 + 35 × h3 + 140 × h4 ≥ 7 × c"
@@ -108,31 +102,6 @@ knowledgeFault k = pick (knowledge k) 0 3
 abbrev pub shearFault : ℕ → ℕ
 shearFault p = pick (leb p 9_999_999_999) 0 10
 
--- what stands past the rows
-unfoldable pub noMember : Member
-noMember =
-    record {
-      number = 0;
-      long = 0;
-      short = 0;
-      area = 0;
-      fcm = 0;
-      fctm = 0;
-      fyw = 0;
-      depth = 0;
-      height = 0;
-      spacing = 0;
-      core = 0;
-      hoops = 0;
-      hooks = 0;
-      zone = 0;
-      strengthened = 0;
-      factor = 0;
-      damage = 0;
-      nd = 0;
-      case = record { nk = 0; me = 0; mp = 0; ve = 0; vr = 0; shear = 0; rotation = 0; drift = 0 };
-    }
-
 -- row j of some members, counted from 0
 abbrev pub memberIn : List Member → ℕ → Member
 memberIn ms j = getD ms j noMember
@@ -148,19 +117,12 @@ memberRowsFault ms = first 0 (λ n. n) (rowFault ms) (length ms)
 -- the first refusal of the call on a storey: 1, k's 3, the storey's 3, its members' 3, 4 and 5, and 10
 unfoldable pub storeyCallFault : Rules → ℕ → Storey → List Member → ℕ
 storeyCallFault rules k s ms =
-    inOrder
-    (countFault (s .count) (length ms)
-    ∷ knowledgeFault k
-    ∷ storeyFault s
-    ∷ memberRowsFault ms
-    ∷ shearFault (overShear rules k (meetsWallShare (s .shear) ms) ms)
-    ∷ [])
+    inOrder (countFault (s .count) (length ms) ∷ knowledgeFault k ∷ storeyFault s ∷ memberRowsFault ms
+    ∷ shearFault (overShear rules k (meetsWallShare (s .shear) ms) ms) ∷ [])
 
 unfoldable pub storeyAnswerBy : Rules → ℕ → Storey → List Member → StoreyAnswer
 storeyAnswerBy rules k s ms =
-    pick (eqb (storeyCallFault rules k s ms) 0)
-    (Judged (storeyFinding rules k (s .shear) ms))
-    (Refused (storeyCallFault rules k s ms))
+    pick (eqb (storeyCallFault rules k s ms) 0) (Judged (storeyFinding rules k (s .shear) ms)) (Refused (storeyCallFault rules k s ms))
 
 -- the answer on a storey, by the published rules
 abbrev pub storeyAnswer : ℕ → Storey → List Member → StoreyAnswer

@@ -3,7 +3,7 @@ ghost use mathlib.Core.Path.{_≡_};
 ghost use Prim.Native.Nat.{ℕ, _≤_};
 ghost use lib.Dec.{eqb};
 ghost use lib.ListN.{length};
-ghost use Rattle.records.specs.First.{pick, any, first};
+ghost use Rattle.records.specs.First.{pick, anyBelow, first};
 ghost use Rattle.records.specs.Totals.{total};
 ghost use Rattle.storeys.specs.Storey.{publishedRules};
 ghost use Rattle.storeys.specs.Building.{storeyIn, storeyRowsFault, Answers};
@@ -45,7 +45,7 @@ fn counts_fit(storeys: &[Storey], rows: usize) -> bool
 // 5 where one of the first n storeys has the number v.
 fn storey_repeat_fault(storeys: &[Storey], n: usize, v: u64) -> u64
     requires { ⌜ n ≤ length (now storeys) ⌝ }
-    ensures { λ r. ⌜ r ≡ pick (any (λ (e : ℕ). eqb (storeyIn (now (storeys .entry)) e .number) v) n) 5 0 ⌝ }
+    ensures { λ r. ⌜ r ≡ pick (anyBelow (λ (e : ℕ). eqb (storeyIn (now (storeys .entry)) e .number) v) n) 5 0 ⌝ }
 {
     let mut e = 0;
     while e < n {

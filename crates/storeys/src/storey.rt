@@ -4,11 +4,11 @@ ghost use mathlib.Core.Bool.{true};
 ghost use Prim.Native.Nat.{ℕ, _≤_};
 ghost use lib.Dec.{eqb};
 ghost use lib.ListN.{length};
-ghost use Rattle.records.specs.First.{pick, any};
+ghost use Rattle.records.specs.First.{pick, anyBelow};
 ghost use Rattle.records.specs.Records.{storeyFault};
 ghost use Rattle.members.specs.Finding.{knowledge};
 ghost use Rattle.records.specs.Totals.{total};
-ghost use Rattle.storeys.specs.Storey.{publishedRules, wallShear, memberIn, memberRowsFault, storeyFinding, storeyAnswer};
+ghost use Rattle.storeys.specs.Storey.{publishedRules, wallShear, memberIn, memberRowsFault, storeyFinding, returnedStorey, storeyReturned};
 ghost use Rattle.storeys.specs.Tally.{tallyOf, Rows};
 use crate::StoreyFinding;
 use crate::StoreyJudgment;
@@ -29,7 +29,7 @@ use records::Storey;
 // 5 where one of the first n members has the number v.
 fn repeat_fault(rows: &[Member], n: usize, v: u64) -> u64
     requires { ⌜ n ≤ length (now rows) ⌝ }
-    ensures { λ r. ⌜ r ≡ pick (any (λ (e : ℕ). eqb (memberIn (now (rows .entry)) e .number) v) n) 5 0 ⌝ }
+    ensures { λ r. ⌜ r ≡ pick (anyBelow (λ (e : ℕ). eqb (memberIn (now (rows .entry)) e .number) v) n) 5 0 ⌝ }
 {
     let mut e = 0;
     while e < n {
@@ -98,7 +98,7 @@ pub(crate) fn found(k: u64, s: Storey, rows: &[Member]) -> StoreyFinding
 
 // The call on a storey: k is its survey's knowledge level.
 pub fn judge_storey(k: u64, s: Storey, rows: &[Member]) -> StoreyJudgment
-    ensures { λ r. ⌜ r .answer ≡ storeyAnswer k s (now (rows .entry)) ⌝ }
+    ensures { λ r. ⌜ returnedStorey (r .answer) ≡ storeyReturned k s (now (rows .entry)) ⌝ }
 {
     let first = head_fault(k, s, rows.len());
     if first != 0 {

@@ -15,6 +15,9 @@ use records::Header;
 use records::first::earlier;
 use records::ranges::header_fault;
 
+// The largest tilt that does not make a building Risky, microradians.
+const TILT_ALLOWED: u64 = 25_000;
+
 // What is found of some storeys, from the first on.
 pub(crate) struct Verdict {
     // 10 where P of one of them is above `OVER_SHEAR_MOST`, else 0
@@ -82,10 +85,10 @@ pub(crate) fn header_call_fault(h: Header, storeys: usize, fit: bool) -> u64
 fn is_tilted(h: Header) -> bool
     ensures { λ r. ⌜ r ≡ tilted h ⌝ }
 {
-    if 25_000 < h.tilt1 {
+    if TILT_ALLOWED < h.tilt1 {
         return true;
     }
-    25_000 < h.tilt2
+    TILT_ALLOWED < h.tilt2
 }
 
 // Some storey is Risky, or the building is tilted.

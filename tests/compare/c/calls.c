@@ -25,6 +25,20 @@ static void print(const char *word, const uint64_t *numbers, size_t count)
     putchar('\n');
 }
 
+/* The figures that a program calls by name. */
+static void print_constants(void)
+{
+    const uint64_t version[] = {LLUNARETH_VERSION, llunareth_version()};
+    const uint64_t scales[] = {LLUNARETH_RATIO_SCALE, LLUNARETH_ROTATION_SCALE, LLUNARETH_FORCE_SCALE, LLUNARETH_ZERO_FORCE};
+    const uint64_t values[] = {
+        LLUNARETH_SHORT,         LLUNARETH_READ_VALUES,     LLUNARETH_MEMBER_VALUES,
+        LLUNARETH_STOREY_VALUES, LLUNARETH_BUILDING_VALUES, LLUNARETH_REPORT_VALUES,
+    };
+    print("version", version, COUNT(version));
+    print("scales", scales, COUNT(scales));
+    print("values", values, COUNT(values));
+}
+
 /* A row by the names of its fields, then by its words from the first on. */
 static void print_storey(const struct llunareth_storey *s)
 {
@@ -63,10 +77,10 @@ static void check_records(const uint64_t *header)
 
 static void judge_member(uint64_t k, bool met, const struct llunareth_member *m)
 {
-    uint64_t out[LLUNARETH_NUMBERS] = {0};
-    llunareth_judge_member(k, met, (const uint64_t *)m, LLUNARETH_MEMBER_NUMBERS, out, LLUNARETH_NUMBERS);
+    uint64_t out[LLUNARETH_MEMBER_VALUES] = {0};
+    const uint64_t returned = llunareth_judge_member(k, met, (const uint64_t *)m, LLUNARETH_MEMBER_NUMBERS, out, LLUNARETH_MEMBER_VALUES);
     const uint64_t found[] = {
-        out[LLUNARETH_REFUSAL],         out[LLUNARETH_MEMBER_CLASS],          out[LLUNARETH_MEMBER_M],    out[LLUNARETH_MEMBER_M_LIMIT],
+        returned,                       out[LLUNARETH_MEMBER_CLASS],          out[LLUNARETH_MEMBER_M],    out[LLUNARETH_MEMBER_M_LIMIT],
         out[LLUNARETH_MEMBER_ROTATION], out[LLUNARETH_MEMBER_ROTATION_LIMIT], out[LLUNARETH_MEMBER_OVER], out[LLUNARETH_MEMBER_ND],
     };
     print("member", found, COUNT(found));
@@ -75,10 +89,11 @@ static void judge_member(uint64_t k, bool met, const struct llunareth_member *m)
 /* A storey, then each of its members with the storey's 0.40 condition. */
 static void judge_storey(uint64_t k, const struct llunareth_storey *s, const struct llunareth_member *own)
 {
-    uint64_t out[LLUNARETH_NUMBERS] = {0};
-    llunareth_judge_storey(k, (const uint64_t *)s, LLUNARETH_STOREY_NUMBERS, own, (size_t)s->count, out, LLUNARETH_NUMBERS);
+    uint64_t out[LLUNARETH_STOREY_VALUES] = {0};
+    const uint64_t returned =
+        llunareth_judge_storey(k, (const uint64_t *)s, LLUNARETH_STOREY_NUMBERS, own, (size_t)s->count, out, LLUNARETH_STOREY_VALUES);
     const uint64_t found[] = {
-        out[LLUNARETH_REFUSAL],           out[LLUNARETH_STOREY_AXIAL_TOTAL], out[LLUNARETH_STOREY_MEMBERS],
+        returned,                         out[LLUNARETH_STOREY_AXIAL_TOTAL], out[LLUNARETH_STOREY_MEMBERS],
         out[LLUNARETH_STOREY_OVER_SHEAR], out[LLUNARETH_STOREY_SHEAR],       out[LLUNARETH_STOREY_RISKY],
         out[LLUNARETH_STOREY_WALLS_SUFFICE],
     };
@@ -90,10 +105,11 @@ static void judge_storey(uint64_t k, const struct llunareth_storey *s, const str
 
 static void judge_building(const uint64_t *header, size_t storey_rows, size_t member_rows)
 {
-    uint64_t out[LLUNARETH_NUMBERS] = {0};
-    llunareth_judge_building(header, LLUNARETH_HEADER_NUMBERS, storeys, storey_rows, members, member_rows, out, LLUNARETH_NUMBERS);
+    uint64_t out[LLUNARETH_BUILDING_VALUES] = {0};
+    const uint64_t returned = llunareth_judge_building(header, LLUNARETH_HEADER_NUMBERS, storeys, storey_rows, members, member_rows, out,
+                                                       LLUNARETH_BUILDING_VALUES);
     const uint64_t found[] = {
-        out[LLUNARETH_REFUSAL],
+        returned,
         out[LLUNARETH_BUILDING_TILTED],
         out[LLUNARETH_BUILDING_RISKY],
         out[LLUNARETH_BUILDING_PLACE],
@@ -103,16 +119,36 @@ static void judge_building(const uint64_t *header, size_t storey_rows, size_t me
 
 static void report(const uint64_t *header, size_t storey_rows, size_t member_rows)
 {
-    uint64_t out[LLUNARETH_NUMBERS] = {0};
-    llunareth_report(header, LLUNARETH_HEADER_NUMBERS, storeys, storey_rows, members, member_rows, text, sizeof text, out,
-                     LLUNARETH_NUMBERS);
-    const uint64_t found[] = {out[LLUNARETH_REFUSAL], out[LLUNARETH_REPORT_LENGTH]};
+    uint64_t out[LLUNARETH_REPORT_VALUES] = {0};
+    const uint64_t returned = llunareth_report(header, LLUNARETH_HEADER_NUMBERS, storeys, storey_rows, members, member_rows, text,
+                                               sizeof text, out, LLUNARETH_REPORT_VALUES);
+    const uint64_t found[] = {returned, out[LLUNARETH_REPORT_LENGTH]};
     print("report", found, COUNT(found));
     fwrite(text, 1, (size_t)out[LLUNARETH_REPORT_LENGTH], stdout);
 }
 
+/* What each call returns where `out` is one too short. */
+static void call_short(size_t length, const uint64_t *header, size_t storey_rows, size_t member_rows)
+{
+    uint64_t out[LLUNARETH_READ_VALUES] = {0};
+    const uint64_t k = header[0];
+    const uint64_t *storey = (const uint64_t *)&storeys[0];
+    const uint64_t *member = (const uint64_t *)&members[0];
+    const uint64_t returned[] = {
+        llunareth_read(file, length, storeys, storey_rows, members, member_rows, out, LLUNARETH_READ_VALUES - 1),
+        llunareth_judge_member(k, false, member, LLUNARETH_MEMBER_NUMBERS, out, LLUNARETH_MEMBER_VALUES - 1),
+        llunareth_judge_storey(k, storey, LLUNARETH_STOREY_NUMBERS, members, member_rows, out, LLUNARETH_STOREY_VALUES - 1),
+        llunareth_judge_building(header, LLUNARETH_HEADER_NUMBERS, storeys, storey_rows, members, member_rows, out,
+                                 LLUNARETH_BUILDING_VALUES - 1),
+        llunareth_report(header, LLUNARETH_HEADER_NUMBERS, storeys, storey_rows, members, member_rows, text, sizeof text, out,
+                         LLUNARETH_REPORT_VALUES - 1),
+        out[0],
+    };
+    print("short", returned, COUNT(returned));
+}
+
 /* The records that were read, then each call on them. */
-static void call_all(const uint64_t *read)
+static void call_all(size_t length, const uint64_t *read)
 {
     const uint64_t *header = read + LLUNARETH_READ_HEADER;
     const size_t storey_rows = (size_t)read[LLUNARETH_READ_STOREY_ROWS];
@@ -130,6 +166,7 @@ static void call_all(const uint64_t *read)
         own += storeys[i].count;
     }
     judge_building(header, storey_rows, member_rows);
+    call_short(length, header, storey_rows, member_rows);
     report(header, storey_rows, member_rows);
 }
 
@@ -137,16 +174,18 @@ int main(void)
 {
     const uint64_t sizes[] = {sizeof(struct llunareth_storey), sizeof(struct llunareth_load_case), sizeof(struct llunareth_member)};
     const size_t length = fread(file, 1, sizeof file, stdin);
-    uint64_t read[LLUNARETH_NUMBERS] = {0};
-    llunareth_read(file, length, storeys, LLUNARETH_STOREY_ROWS, members, LLUNARETH_MEMBER_ROWS, read, LLUNARETH_NUMBERS);
+    uint64_t read[LLUNARETH_READ_VALUES] = {0};
+    const uint64_t returned =
+        llunareth_read(file, length, storeys, LLUNARETH_STOREY_ROWS, members, LLUNARETH_MEMBER_ROWS, read, LLUNARETH_READ_VALUES);
     const uint64_t told[] = {
-        read[LLUNARETH_REFUSAL],      read[LLUNARETH_LINE],       read[LLUNARETH_READ_KNOWLEDGE], read[LLUNARETH_READ_HEIGHT],
+        LLUNARETH_REFUSAL(returned),  LLUNARETH_LINE(returned),   read[LLUNARETH_READ_KNOWLEDGE], read[LLUNARETH_READ_HEIGHT],
         read[LLUNARETH_READ_STOREYS], read[LLUNARETH_READ_TILT1], read[LLUNARETH_READ_TILT2],     read[LLUNARETH_READ_COUNT],
     };
+    print_constants();
     print("sizes", sizes, COUNT(sizes));
     print("read", told, COUNT(told));
-    if (read[LLUNARETH_REFUSAL] == 0) {
-        call_all(read);
+    if (returned == 0) {
+        call_all(length, read);
     }
     const uint64_t put = llunareth_determine(file, length, text, sizeof text);
     print("determine", &put, 1);

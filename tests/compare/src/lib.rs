@@ -53,31 +53,46 @@ fn refusal(r: llunareth::Refusal) -> Refusal {
     Refusal::at(r.number.try_into().expect("a number from 1 to 10"), r.line)
 }
 
-/// Panics unless a call puts out a refusal and nothing else but its line, or so many values and nothing else; and returns that refusal, also
-/// where no number can be put out.
-fn assert_ten(values: usize, call: impl Fn(&mut [u64]) -> u64) {
-    let mut out = [u64::MAX; 10];
-    let returned = call(&mut out);
-    assert_eq!(returned, out[0], "the refusal returned and put out");
-    assert_eq!(call(&mut []), returned, "the refusal returned where there is no room");
-    if returned != 0 {
-        assert_eq!(out[2..], [0; 8], "a refusal tells nothing else");
-    } else {
-        assert_eq!(out[1], 0, "what is accepted has no line");
-        assert_eq!(out[2 + values..], [0; 8][values..], "zeros after the values");
-    }
+/// What stands in an `out` before a call: numbers that no call puts out.
+pub fn marks(len: usize) -> Vec<u64> {
+    (0..len as u64).map(|i| u64::MAX - i).collect()
+}
+
+/// Panics unless a call with so many values leaves alone what it must: of `out` all but the values where it is accepted; everything lent where
+/// it is refused; and where `out` is one too short, everything lent again, and it returns that. What it returned with room in `out`.
+pub fn assert_left<L: Clone + PartialEq>(values: usize, lent: &L, call: impl Fn(&mut L, &mut [u64]) -> u64) -> u64 {
+    let (mut after, mut out) = (lent.clone(), marks(values + 3));
+    let returned = call(&mut after, &mut out);
+    let put = if returned == 0 { values } else { 0 };
+    assert_eq!(out[put..], marks(values + 3)[put..], "out after {put} values");
+    assert!(returned == 0 || after == *lent, "what is lent, after refusal {returned}");
+    let (mut after, mut out) = (lent.clone(), marks(values - 1));
+    assert_eq!(call(&mut after, &mut out), raw::SHORT, "an out for {} of {values} values", values - 1);
+    assert!(out == marks(values - 1) && after == *lent, "what is lent with an out that is too short");
+    returned
+}
+
+/// The same of a call that changes nothing but `out`.
+pub fn assert_out_left(values: usize, call: impl Fn(&mut [u64]) -> u64) -> u64 {
+    assert_left(values, &(), |_, out| call(out))
+}
+
+/// So many rows before a call.
+pub fn marked_rows(storeys: usize, members: usize) -> (Vec<StoreyRow>, Vec<MemberRow>) {
+    let storeys = (0..storeys).map(|i| StoreyRow::from([7 + i as u64; 3])).collect();
+    let members = (0..members).map(|i| MemberRow::from([9 + i as u64; 26])).collect();
+    (storeys, members)
 }
 
 /// What the proved reading call answers for a file and so many rows. Panics where a row changed that it must leave alone.
 pub fn read(bytes: &[u8], storey_rows: usize, member_rows: usize) -> Result<Survey, Refusal> {
-    let storey_mark: Vec<StoreyRow> = (0..storey_rows).map(|i| StoreyRow::from([7 + i as u64; 3])).collect();
-    let member_mark: Vec<MemberRow> = (0..member_rows).map(|i| MemberRow::from([9 + i as u64; 26])).collect();
-    assert_ten(8, |out| raw::read(bytes, &mut storey_mark.clone(), &mut member_mark.clone(), out));
-    let (mut storeys, mut members) = (storey_mark.clone(), member_mark.clone());
+    let marked = marked_rows(storey_rows, member_rows);
+    assert_left(raw::READ_VALUES, &marked, |(storeys, members), out| raw::read(bytes, storeys, members, out));
+    let (mut storeys, mut members) = marked.clone();
     let found = llunareth::read(bytes, &mut storeys, &mut members).map(survey_of).map_err(refusal);
     let (s, m) = found.as_ref().map_or((0, 0), |survey| (survey.storeys.len(), survey.members.len()));
-    assert_eq!(storeys[s..], storey_mark[s..], "storey rows after those filled");
-    assert_eq!(members[m..], member_mark[m..], "member rows after those filled");
+    assert_eq!(storeys[s..], marked.0[s..], "storey rows after those filled");
+    assert_eq!(members[m..], marked.1[m..], "member rows after those filled");
     found
 }
 
@@ -107,7 +122,7 @@ pub fn member_fault(numbers: &[u64; 26]) -> Result<(), Refusal> {
 
 /// The proved call on a member, given by its stored numbers. `n` is not part of its answer, so it is taken over from `like`.
 pub fn judge_member(k: u64, met: bool, numbers: &[u64; 26], like: u64) -> Result<MemberFinding, Refusal> {
-    assert_ten(7, |out| raw::judge_member(k, met, numbers, out));
+    assert_out_left(raw::MEMBER_VALUES, |out| raw::judge_member(k, met, numbers, out));
     let f = llunareth::judge_member(k, met, &MemberRow::from(*numbers)).map_err(refusal)?;
     Ok(MemberFinding {
         class: f.class.try_into().expect("a class from 1 to 5"),
@@ -134,7 +149,7 @@ pub fn storey_rows(storeys: &[Storey]) -> Vec<StoreyRow> {
 /// The proved call on a storey.
 pub fn judge_storey(k: u64, s: &Storey, rows: &[MemberRow]) -> Result<StoreyFinding, Refusal> {
     let storey = storey_numbers(s);
-    assert_ten(6, |out| raw::judge_storey(k, &storey, rows, out));
+    assert_out_left(raw::STOREY_VALUES, |out| raw::judge_storey(k, &storey, rows, out));
     let f = llunareth::judge_storey(k, &StoreyRow::from(storey), rows).map_err(refusal)?;
     Ok(StoreyFinding {
         number: s.number,
@@ -150,14 +165,14 @@ pub fn judge_storey(k: u64, s: &Storey, rows: &[MemberRow]) -> Result<StoreyFind
 /// The proved call on a building.
 pub fn judge_building(h: &Header, storeys: &[Storey], rows: &[MemberRow]) -> Result<BuildingFinding, Refusal> {
     let (header, storeys) = (header_numbers(h), storey_rows(storeys));
-    assert_ten(3, |out| raw::judge_building(&header, &storeys, rows, out));
+    assert_out_left(raw::BUILDING_VALUES, |out| raw::judge_building(&header, &storeys, rows, out));
     llunareth::judge_building(&header.into(), &storeys, rows).map_err(refusal)
 }
 
 /// The proved report call: the sheet, which stands at the front of `buffer` as well.
 pub fn report(h: &Header, storeys: &[Storey], rows: &[MemberRow], buffer: &mut [u8]) -> Result<Vec<u8>, Refusal> {
     let (header, storeys) = (header_numbers(h), storey_rows(storeys));
-    assert_ten(1, |out| raw::report(&header, &storeys, rows, &mut buffer.to_vec(), out));
+    assert_left(raw::REPORT_VALUES, &buffer.to_vec(), |sheet, out| raw::report(&header, &storeys, rows, sheet, out));
     llunareth::report(&header.into(), &storeys, rows, buffer).map(Vec::from).map_err(refusal)
 }
 

@@ -1,7 +1,11 @@
 //! The header for C and C++ and the program `verdict`, over the proved library, against the independent program.
-use compare::{header_numbers, judge_building, member_numbers, member_rows, refusal_told, samples, storey_numbers, worked_example};
+use compare::{
+    header_numbers, judge_building, member_numbers, member_rows, plain_column, refusal_told, same_building, same_member, samples,
+    storey_numbers, worked_example,
+};
 use generator::{any_file, valid_survey, write_survey, Rng};
 use independent::{Member, Storey, Survey};
+use llunareth::raw;
 use std::fs::{self, File};
 use std::io::Write;
 use std::path::{Path, PathBuf};
@@ -190,6 +194,40 @@ fn verdict_on_what_cannot_be_read_or_written() {
     assert_eq!(outcome(verdict().arg(&survey).stdout(full).output().expect("verdict starts")), nothing);
 }
 
+/// `verdict` over a library that says it has another version.
+#[test]
+fn verdict_with_another_version_of_the_library() {
+    let other = own("other_version.c");
+    fs::write(&other, "unsigned long __wrap_llunareth_version(void) { return 3; }\n").expect("written");
+    let mut compiler = compiler("gcc", "-std=c99");
+    let program = build(compiler.arg(other).arg("-Wl,--wrap=llunareth_version"), "bindings/c/verdict.c", "verdict_other");
+    let output = Command::new(program).arg(samples::folder().join("walls.survey")).output().expect("verdict starts");
+    assert_eq!(said(&output), "verdict: the library has another form of the calls\n");
+    assert_eq!(outcome(output), (String::new(), Some(2)));
+}
+
+// ---- the scales ----
+
+/// 1,000 kN on 100,000 mm² of 10 MPa is the axial ratio 1; a moment of its capacity is m 1; 0.025 rad is the tilt allowed.
+#[test]
+fn the_scales_are_those_of_both_programs() {
+    let (ratio, rotation) = (llunareth::RATIO_SCALE, llunareth::ROTATION_SCALE);
+    let force = 1_000 * llunareth::FORCE_SCALE;
+    let column = Member { n_d: force as i64, m_e: 100, m_p: 100, ..plain_column() };
+    let numbers = member_numbers(&column).expect("a good member");
+    assert_eq!(numbers[17], llunareth::ZERO_FORCE + force);
+    let found = llunareth::judge_member(100, false, &numbers.into()).expect("accepted");
+    assert_eq!((found.nd, found.m), (ratio, ratio));
+    assert_eq!(same_member(100, false, &column), None);
+    for (tilt, above) in [(rotation / 40, false), (rotation / 40 + 1, true)] {
+        let mut survey = worked_example();
+        survey.header.tilt_1 = tilt;
+        assert_eq!(same_building(&survey), None);
+        let rows = member_rows(&survey.members).expect("good members");
+        assert_eq!(judge_building(&survey.header, &survey.storeys, &rows).expect("accepted").tilted, above);
+    }
+}
+
 // ---- every call from C and C++ ----
 
 /// A line of a word and numbers.
@@ -230,8 +268,17 @@ fn survey_lines(survey: &Survey) -> String {
     let found = independent::judge_building(header, storeys, members).expect("accepted");
     let place = judge_building(header, storeys, &member_rows(members).expect("good members")).expect("accepted").place;
     lines += &line("building", &[0, found.tilt_above.into(), found.risky.into(), place]);
+    lines += "short 255 255 255 255 255 0\n";
     let sheet = independent::report(header, storeys, members, usize::MAX).expect("accepted");
     lines + &line("report", &[0, sheet.len() as u64]) + std::str::from_utf8(&sheet).expect("text")
+}
+
+/// The constants of the header are those of the Rust package.
+fn constants_lines() -> String {
+    let scales = [llunareth::RATIO_SCALE, llunareth::ROTATION_SCALE, llunareth::FORCE_SCALE, llunareth::ZERO_FORCE];
+    let values = [raw::READ_VALUES, raw::MEMBER_VALUES, raw::STOREY_VALUES, raw::BUILDING_VALUES, raw::REPORT_VALUES];
+    let values = values.map(|n| n as u64);
+    line("version", &[raw::VERSION; 2]) + &line("scales", &scales) + &line("values", &[&[raw::SHORT], &values[..]].concat())
 }
 
 /// What calls.c prints for a file.
@@ -241,7 +288,7 @@ fn calls_lines(file: &[u8]) -> String {
         Err(refusal) => line("read", &[refusal.number.into(), refusal.line, 0, 0, 0, 0, 0, 0]),
     };
     let printed = independent::determine(file);
-    "sizes 24 64 208\n".to_string() + &read + &line("determine", &[printed.len() as u64]) + std::str::from_utf8(&printed).expect("text")
+    constants_lines() + "sizes 24 64 208\n" + &read + &line("determine", &[printed.len() as u64]) + std::str::from_utf8(&printed).expect("text")
 }
 
 /// The samples, and good surveys with other numbers in every field.

@@ -2,9 +2,12 @@
 use compare::{refusal_line, refusal_told, same_determine, samples, worked_example, WORKED_SHEET};
 use generator::{any_file, damage, lent_bytes, surveys_at_rows, valid_survey, write_survey, Rng};
 use std::collections::BTreeSet;
+use std::fs::{self, File, OpenOptions};
 use std::io::{ErrorKind, Write};
+use std::os::fd::OwnedFd;
+use std::os::unix::net::UnixStream;
 use std::path::{Path, PathBuf};
-use std::process::{ChildStdin, Command, Stdio};
+use std::process::{ChildStdin, Command, Output, Stdio};
 use std::thread::sleep;
 use std::time::Duration;
 
@@ -170,7 +173,12 @@ fn send(pipe: &mut ChildStdin, part: &[u8]) -> bool {
 
 /// What the program prints for input that comes by a pipe in chunks, with a pause before each; and whether all was sent.
 fn run(input: &[u8], chunk: usize, pause: Duration) -> (Vec<u8>, bool) {
-    let mut child = Command::new(program()).stdin(Stdio::piped()).stdout(Stdio::piped()).spawn().expect("the program starts");
+    let mut child = Command::new(program())
+        .stdin(Stdio::piped())
+        .stdout(Stdio::piped())
+        .stderr(Stdio::piped())
+        .spawn()
+        .expect("the program starts");
     let mut pipe = child.stdin.take().expect("a pipe");
     let sent = input.chunks(chunk).all(|part| {
         sleep(pause);
@@ -179,6 +187,7 @@ fn run(input: &[u8], chunk: usize, pause: Duration) -> (Vec<u8>, bool) {
     drop(pipe);
     let output = child.wait_with_output().expect("the program ends");
     assert!(output.status.code().is_some(), "ended by {}", output.status);
+    assert_eq!(String::from_utf8_lossy(&output.stderr), "");
     (output.stdout, sent)
 }
 
@@ -244,4 +253,79 @@ fn the_program_on_lengths_about_the_most_that_is_read() {
 fn the_program_does_not_wait_for_the_end_of_input_that_is_too_long() {
     let (printed, sent) = run(&vec![b' '; 1_000_000], 1_000, Duration::ZERO);
     assert_eq!((printed, sent), (refusal_line(8, 0), false));
+}
+
+// ---- the program where a read or a write fails ----
+
+const INPUT_FAILURE: &str = "determine: standard input cannot be read\n";
+const OUTPUT_FAILURE: &str = "determine: standard output cannot be written\n";
+
+/// What the program, or a shell that becomes it, prints on standard output and standard error.
+fn printed(command: &mut Command) -> (String, String) {
+    let Output { stdout, stderr, status } = command.output().expect("the program starts");
+    assert!(status.code().is_some(), "ended by {status}");
+    (String::from_utf8_lossy(&stdout).into(), String::from_utf8_lossy(&stderr).into())
+}
+
+fn silent_but(failure: &str) -> (String, String) {
+    (String::new(), failure.into())
+}
+
+/// A shell whose last words are to become the program.
+fn shell(words: &str) -> Command {
+    let mut command = Command::new("sh");
+    command.args(["-c", words]).arg(program());
+    command
+}
+
+/// A good file whose sheet has more than a kilobyte.
+fn walls() -> File {
+    File::open(samples::folder().join("walls.survey")).expect("a sample")
+}
+
+#[test]
+fn a_directory_as_standard_input() {
+    let directory = File::open(env!("CARGO_MANIFEST_DIR")).expect("a directory");
+    assert_eq!(printed(Command::new(program()).stdin(directory)), silent_but(INPUT_FAILURE));
+}
+
+#[test]
+fn standard_input_closed() {
+    assert_eq!(printed(&mut shell("exec \"$0\" <&-")), silent_but(INPUT_FAILURE));
+}
+
+/// The other end sends a whole good file and closes with a byte unread, which makes the read after the file fail.
+#[test]
+fn a_read_that_fails_after_a_good_file() {
+    let (mut sender, mut input) = UnixStream::pair().expect("a pair of sockets");
+    sender.write_all(&write_survey(&worked_example())).expect("sent");
+    input.write_all(b"x").expect("sent");
+    drop(sender);
+    assert_eq!(printed(Command::new(program()).stdin(OwnedFd::from(input))), silent_but(INPUT_FAILURE));
+}
+
+#[test]
+fn standard_output_closed() {
+    assert_eq!(printed(shell("exec \"$0\" >&-").stdin(walls())), silent_but(OUTPUT_FAILURE));
+    assert_eq!(printed(shell("exec \"$0\" >&-").stdin(Stdio::null())), silent_but(OUTPUT_FAILURE));
+}
+
+#[test]
+fn standard_output_full() {
+    let full = OpenOptions::new().write(true).open("/dev/full").expect("/dev/full");
+    let mut command = Command::new(program());
+    assert_eq!(printed(command.stdin(walls()).stdout(full)), silent_but(OUTPUT_FAILURE));
+}
+
+/// A file that may grow to one block only takes the front of the sheet, and the next write fails.
+#[test]
+fn standard_output_cut_off() {
+    let path = std::env::temp_dir().join(format!("determine-cut-off-{}", std::process::id()));
+    let file = File::create(&path).expect("a file");
+    let told = printed(shell("trap '' XFSZ; ulimit -f 1; exec \"$0\"").stdin(walls()).stdout(file));
+    let written = fs::read(&path).expect("the file");
+    fs::remove_file(&path).expect("removed");
+    assert_eq!(told, silent_but(OUTPUT_FAILURE));
+    let sheet = fs::read(samples::folder().join("walls.sheet")).expect("a sample");
+    assert!(!written.is_empty() && written.len() < sheet.len() && sheet.starts_with(&written), "{} bytes", written.len());
 }

@@ -1,7 +1,6 @@
 //! The reading call and the checks of records against the independent program.
 use compare::{
     header_fault, header_numbers, header_of, member_fault, member_numbers, member_of, read, storey_fault, storey_numbers, storey_of,
-    MemberRow, StoreyRow,
 };
 use generator::{any_file, damage, file_of, lent_rows, survey_lines, valid_survey, wild_header, wild_member, wild_storey, write_survey, Line, Rng};
 use independent::records::{check_header, check_member, check_storey};
@@ -105,19 +104,6 @@ fn each_refusal_at_its_line() {
 fn accepted_rows_are_those_written() {
     let s = small();
     assert_eq!(read(&write_survey(&s), 4, 5), Ok(s));
-}
-
-#[test]
-fn a_short_buffer_is_left_alone_and_a_long_one_past_ten() {
-    let bytes = write_survey(&small());
-    for n in [0, 9, 10, 12] {
-        let (mut storeys, mut members) = ([StoreyRow::default(); 2], [MemberRow::default(); 3]);
-        let mut out = vec![5; n];
-        assert_eq!(raw::read(&bytes, &mut storeys, &mut members, &mut out), 0);
-        let kept = if n < 10 { 0 } else { 10 };
-        assert_eq!(out[kept..], vec![5; n - kept]);
-        assert_ne!(out[..kept].first(), Some(&5));
-    }
 }
 
 /// Each force that N_D and N_K may be, handed in without the offset, is refused.

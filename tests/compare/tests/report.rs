@@ -1,5 +1,5 @@
 //! The report call against the independent program, byte by byte.
-use compare::{header_numbers, member_rows, pattern, report, same_report, sheet_len, storey_rows, worked_example, WORKED_SHEET};
+use compare::{assert_left, header_numbers, member_rows, pattern, report, same_report, sheet_len, storey_rows, worked_example, WORKED_SHEET};
 use generator::{edge_member_for, lent_bytes, surveys_at_rows, valid_survey, wild_survey, Rng};
 use independent::{Header, Member, Refusal, Storey, Survey};
 use llunareth::raw;
@@ -149,28 +149,12 @@ fn the_worked_example() {
 }
 
 #[test]
-fn ten_numbers_go_out_or_none() {
-    let survey = worked_example();
-    let (header, storeys) = (header_numbers(&survey.header), storey_rows(&survey.storeys));
-    let rows = member_rows(&survey.members).expect("good members");
-    for n in [0, 1, 9, 10, 12] {
-        let mut out = vec![5; n];
-        assert_eq!(raw::report(&header, &storeys, &rows, &mut pattern(272), &mut out), 0);
-        assert_eq!(raw::report(&header, &storeys, &rows, &mut pattern(271), &mut vec![5; n]), 9);
-        let put: &[u64] = if n < 10 { &[] } else { &[0, 0, 272, 0, 0, 0, 0, 0, 0, 0] };
-        assert_eq!((&out[..put.len()], &out[put.len()..]), (put, &vec![5; n - put.len()][..]));
-    }
-}
-
-#[test]
 fn a_header_with_a_missing_number_is_refused() {
     let survey = worked_example();
     let (header, storeys) = (header_numbers(&survey.header), storey_rows(&survey.storeys));
     let rows = member_rows(&survey.members).expect("good members");
     for n in 0..6 {
-        let (mut buffer, mut out) = (pattern(300), [u64::MAX; 10]);
-        assert_eq!(raw::report(&header[..n], &storeys, &rows, &mut buffer, &mut out), 1);
-        assert_eq!(out, [1, 0, 0, 0, 0, 0, 0, 0, 0, 0], "B with {n} fields");
-        assert_eq!(buffer, pattern(300));
+        let call = |sheet: &mut Vec<u8>, out: &mut [u64]| raw::report(&header[..n], &storeys, &rows, sheet, out);
+        assert_eq!(assert_left(raw::REPORT_VALUES, &pattern(300), call), 1, "B with {n} fields");
     }
 }

@@ -22,8 +22,26 @@ slice-aggregate-write-all c = sym (length-take-le _ _ (put-within (printed (c .b
 write-all-requires : tie.Need-write-all-requires
 write-all-requires c κs = search needs
 
+output-of-requires : tie.Need-output-of-requires
+output-of-requires c κs = search needs
+
+enum-told : tie.Need-enum-told
+enum-told c = search needs
+
+enum-told-2 : tie.Need-enum-told-2
+enum-told-2 c = search needs
+
+slice-aggregate-tell : tie.Need-slice-aggregate-tell
+slice-aggregate-tell c = search needs
+
+tell-requires : tie.Need-tell-requires
+tell-requires c κs = search needs
+
 returns : tie.Need-returns
 returns c = search needs
+
+returns-2 : tie.Need-returns-2
+returns-2 c = search needs
 
 pub print-spec : {M : Type 1} → statement M
 print-spec =
@@ -34,4 +52,10 @@ print-spec =
     array-share-prefix-sheet
     slice-aggregate-write-all
     write-all-requires
-    returns)
+    output-of-requires
+    enum-told
+    enum-told-2
+    slice-aggregate-tell
+    tell-requires
+    returns
+    returns-2)

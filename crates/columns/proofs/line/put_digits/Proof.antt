@@ -3,7 +3,7 @@ use native.Mathlib.Omega.{arith}
 use mathlib.Core.Path.{_≡_, refl, _∙_}
 use lib.ListN.{length, length-set}
 use borrow.Author.Needs.{needs}
-use Rattle.columns.specs.Line.{digitsOver}
+use Rattle.columns.specs.Bytes.{digitsOver}
 use Rattle.columns.proofs.Digits.{over-last, over-more, over-none}
 use Rattle.columns.proofs.line.put_digits.Statement.{statement}
 use Rattle.columns.proofs.line.put_digits.Tie as tie

@@ -1,7 +1,7 @@
 use Prim.Native.Nat.{ℕ}
 use mathlib.Core.List.{List}
 use mathlib.Core.Path.{ap, _∙_}
-use Rattle.columns.specs.Line.{digitsOver}
+use Rattle.columns.specs.Bytes.{digitsOver}
 use Rattle.columns.proofs.Digits.{over-blanks}
 use borrow.Author.Needs.{needs}
 use Rattle.columns.proofs.line.put_field.Statement.{statement}

@@ -1,4 +1,4 @@
-use mathlib.Core.Path.{refl, sym, _∙_}
+use mathlib.Core.Path.{sym, _∙_}
 use borrow.Author.Tests.{not-true, not-false, leb-true}
 use borrow.Author.Needs.{needs}
 use Rattle.columns.specs.Line.{line}

@@ -3,7 +3,7 @@ use mathlib.Core.Path.{_≡_, refl}
 use native.Mathlib.Omega.{arith}
 use borrow.Author.Needs.{needs}
 use lib.ListN.{length, drop, getD, length-set}
-use Rattle.columns.specs.Line.{stamped}
+use Rattle.columns.specs.Bytes.{stamped}
 use Rattle.columns.proofs.Stamps.{text-next, text-end}
 use Rattle.columns.proofs.line.put_text.Statement.{statement}
 use Rattle.columns.proofs.line.put_text.Tie as tie

@@ -5,7 +5,8 @@ use borrow.Author.Needs.{needs}
 use lib.ListN.{length, drop, getD}
 use mathlib.Core.List.{[], _∷_}
 use Rattle.format.specs.Spelling.{spelled}
-use Rattle.columns.specs.Line.{printedNumbers, stamped}
+use Rattle.columns.specs.Line.{printedNumbers}
+use Rattle.columns.specs.Bytes.{stamped}
 use Rattle.columns.proofs.Stamps.{kept-length, printed-numbers-next, printed-numbers-end, line-done}
 use Rattle.columns.proofs.line.put_whole_line.Statement.{statement}
 use Rattle.columns.proofs.line.put_whole_line.Tie as tie

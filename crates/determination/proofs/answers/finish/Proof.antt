@@ -11,9 +11,6 @@ finish-report-requires c κs = search needs
 enum-known-answer : tie.Need-enum-known-answer
 enum-known-answer c = search needs
 
-number-requires : tie.Need-number-requires
-number-requires c κs = search needs
-
 write-refusal-requires : tie.Need-write-refusal-requires
 write-refusal-requires c κs = search needs
 
@@ -31,7 +28,7 @@ same-length-2 c = search needs
 returns-2 : tie.Need-returns-2
 returns-2 c =
     let w = c .before .before .write-refusal .ensures in
-    rw (c .before .before .before .before .before .before .answer .given .1, ← c .before .before .before .number .ensures) w
+    rw (c .before .before .before .before .before .answer .given .1) w
 
 pub finish-spec : {M : Type 1} → statement M
 finish-spec =
@@ -40,7 +37,6 @@ finish-spec =
     enum-told
     finish-report-requires
     enum-known-answer
-    number-requires
     write-refusal-requires
     same-length
     returns

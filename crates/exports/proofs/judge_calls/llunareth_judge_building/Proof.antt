@@ -1,17 +1,19 @@
 use mathlib.Core.List.{[], _∷_}
 use mathlib.Core.Path.{refl, subst}
+use lib.ListN.{length}
 use contract.Lifetimes.{Lfts, Shares}
 use contract.Running.{tablesOf}
-use mir.Syntax.{Ty, w64, tyInt, tyRef, named, erased, imm, mut}
+use mir.Syntax.{Ty, w64, unsigned, lt, tyInt, tyRef, named, erased, imm, mut}
 use denote.Memory.{pointee}
+use borrow.Author.Tests.{ltb-true, ltb-false}
 use borrow.Kind.MutSlice.{fix-len}
 use borrow.Fn.World.{World}
 use borrow.Rule.Slice.Mut.{msleft}
 use borrow.Rule.Slice.Relend.{asMut, msptr, mslice-owed}
-use borrow.Table.Row.{Cx, lease, off, alive, dead}
+use borrow.Table.Row.{Cx, lease, off, alive, dead, sBool}
 use borrow.Table.Rows.{sc-here}
-use Rattle.walk.proofs.Walk.{S, _⨾_, _▸_, at, slot, from, fld, gone, forget, ret, same, u64}
-use Rattle.walk.proofs.Slice.{R, kept, full, here, val-at, sh-at, sh-spares, sh-reads, mut-at, mut-is, mut-reads, slice, lend-on, back-on, owed-len}
+use Rattle.walk.proofs.Walk.{S, _⨾_, _▸_, at, slot, from, set, op2, lit, cp, fld, sc, gone, old, forget, when, ret, same, u64}
+use Rattle.walk.proofs.Slice.{R, kept, full, here, mut-len, val-at, sh-at, sh-spares, sh-reads, mut-at, mut-is, mut-reads, slice, lend-on, back-on, owed-len}
 use Rattle.walk.proofs.Array.{begin, end, over}
 use Rattle.walk.proofs.Fn.{Callee, Knows, Body, Answers, entry, callee, knows, call, meets}
 use Rattle.storeys.proofs.Structs.{buildingjudgment}
@@ -19,6 +21,7 @@ use Rattle.records.specs.declared.Header.{Header}
 use Rattle.storeys.specs.Storey.{publishedRules}
 use Rattle.storeys.specs.Building.{Answers as Answered}
 use Rattle.records.proofs.Structs.{header, member, storey}
+use Rattle.exports.specs.Words.{room, no-room}
 use Rattle.exports.proofs.Says as Says
 use Rattle.exports.proofs.Says.{words}
 use Rattle.exports.proofs.judge_calls.header_given.Met as header-given-met
@@ -57,47 +60,57 @@ abbrev τ2 : Ty
 abbrev τ3 : Ty
 τ3 = tyRef (named 2) imm (pointee (R member .written))
 
-abbrev τ8 : Ty
-τ8 = tyRef erased mut (tyInt w64)
+abbrev τ10 : Ty
+τ10 = tyRef erased mut (tyInt w64)
 
 abbrev start : Lfts 4 → Shares 4 → Cx
 start κs qs = entry Says.llunareth-judge-building K 1 Code.function κs qs
 
 abbrev cx1 : Lfts 4 → Shares 4 → Cx
-cx1 κs qs = at 4 (mslice-owed words (tyRef (named 3) mut (tyInt w64)) 3 4 (lease (κs .1 .1 .1 .0) (qs .1 .1 .1 .0))) (at 6 (kept buildingjudgment) (at 7 (msptr words (tyRef erased mut (tyInt w64)) 4) (slot 3 off (slot 4 alive (start κs qs)))))
+cx1 κs qs = at 4 (mslice-owed words (tyRef (named 3) mut (tyInt w64)) 3 4 (lease (κs .1 .1 .1 .0) (qs .1 .1 .1 .0))) (at 6 (kept buildingjudgment) (at 9 (msptr words (tyRef erased mut (tyInt w64)) 4) (slot 3 off (slot 4 alive (start κs qs)))))
 
 abbrev cx2 : Lfts 4 → Shares 4 → Cx
-cx2 κs qs = at 4 (mslice-owed words (tyRef (named 3) mut (tyInt w64)) 3 4 (lease (κs .1 .1 .1 .0) (qs .1 .1 .1 .0))) (at 0 (sc-here u64) (at 8 (msleft words (tyRef erased mut (tyInt w64))) (slot 3 off (slot 4 dead (start κs qs)))))
+cx2 κs qs = at 4 (mslice-owed words (tyRef (named 3) mut (tyInt w64)) 3 4 (lease (κs .1 .1 .1 .0) (qs .1 .1 .1 .0))) (at 0 (sc-here u64) (at 10 (msleft words (tyRef erased mut (tyInt w64))) (slot 3 off (slot 4 dead (start κs qs)))))
 
 abbrev body : Body Says.llunareth-judge-building K 1 Code.function
 body κs qs bs =
-    call the-header-given (λ s k. k .0) 5 (0 ∷ []) (sh-at 1 τ1 (λ x. x), tt) (λ s. (sh-spares s words τ1 0, sh-reads s words τ1 0, refl, tt)) gone (tt, tt) refl ⨾
+    set 7 u64 (fld 4 1 (mut-len words 3) refl) gone refl (λ u. refl) (λ u. tt) ⨾
+    op2 8 sBool (lt unsigned) (cp 7 (sc u64)) (lit w64 3 tt) gone refl (λ u. refl) (λ u. tt) ⨾
+    forget 7 (old u64) ▸
+    when 8 (λ t. t) (sc sBool) (old sBool) refl (set 0 u64 (lit w64 255 tt) gone refl (λ u. refl) (λ u. tt) ⨾ ret tt)
+    (from (start κs qs) (call the-header-given (λ s k. k .0) 5 (0 ∷ []) (sh-at 1 τ1 (λ x. x), tt) (λ s. (sh-spares s words τ1 0, sh-reads s words τ1 0, refl, tt)) gone (tt, tt) refl ⨾
     call the-judge-building (λ s k. k .1) 6 (1 ∷ 2 ∷ []) (val-at 5 (λ x. x), (sh-at 2 τ2 (λ x. x), (sh-at 3 τ3 (λ x. x), tt))) (λ s. ((here header .is s, refl), (sh-spares s (R storey) τ2 1, sh-reads s (R storey) τ2 1, refl, (sh-spares s (R member) τ3 2, sh-reads s (R member) τ3 2, refl, tt)))) gone (tt, (tt, tt)) refl ⨾
     forget 5 (full header) ▸
-    begin 4 (tt, (tt, (tt, (tt, (tt, (tt, (tt, (tt, (tt, tt))))))))) ▸
-    lend-on words 7 4 3 4 same gone tt refl refl (λ b o. tt) ⨾
-    from (cx1 κs qs) (slice words (asMut words) 8 7 4 (fld 4 1 (owed-len words 3 4 (lease (κs .1 .1 .1 .0) (qs .1 .1 .1 .0))) refl) same gone refl refl (λ b o k. tt) ⨾
-    call the-put-building (λ s k. k .2) 0 (4 ∷ []) (mut-at 8 τ8 (λ x. x), (val-at 6 (λ x. x), tt)) (λ s. (mut-is s words τ8 4, mut-reads s words τ8 4, refl, ((here buildingjudgment .is s, refl), tt))) gone (tt, tt) refl ⨾
+    begin 4 (tt, (tt, (tt, (tt, (tt, (tt, (tt, (tt, (tt, (tt, (tt, tt))))))))))) ▸
+    lend-on words 9 4 3 4 same gone tt refl refl (λ b o. tt) ⨾
+    from (cx1 κs qs) (slice words (asMut words) 10 9 4 (fld 4 1 (owed-len words 3 4 (lease (κs .1 .1 .1 .0) (qs .1 .1 .1 .0))) refl) same gone refl refl (λ b o k. tt) ⨾
+    call the-put-building (λ s k. k .2) 0 (4 ∷ []) (mut-at 10 τ10 (λ x. x), (val-at 6 (λ x. x), tt)) (λ s. (mut-is s words τ10 4, mut-reads s words τ10 4, refl, ((here buildingjudgment .is s, refl), tt))) gone (tt, tt) refl ⨾
     forget 6 (full buildingjudgment) ▸
     end 4 refl ▸
-    from (cx2 κs qs) (back-on words 8 4 3 4 (lease (κs .1 .1 .1 .0) (qs .1 .1 .1 .0)) same same refl refl ▸
+    from (cx2 κs qs) (back-on words 10 4 3 4 (lease (κs .1 .1 .1 .0) (qs .1 .1 .1 .0)) same same refl refl ▸
     over 4 ▸
-    ret tt))
+    ret tt))))
 
 answers : Answers Says.llunareth-judge-building K 1 Code.function body
 answers κs qs a good pre bs = (
-  λ _. tt,
-  λ s. (
-    λ _. tt,
-    λ g. λ γ. (
-      refl,
-      (
+  tt,
+  (
+    λ hit. ((refl, (refl, (refl, (refl, tt)))), no-room (ltb-true (length (a .1 .1 .1 .0 .now)) 3 hit) refl refl),
+    λ miss. (
+      λ _. tt,
+      λ s. (
         λ _. tt,
-        λ p. (
+        λ g. λ γ. (
           refl,
-          λ back. (
-            (refl, (refl, (refl, (fix-len (a .1 .1 .1 .0 .ptr) (a .1 .1 .1 .0 .name) (p .2 .0) (a .1 .1 .1 .0 .now) back, tt)))),
-            record { answer = g .1 .answer; given = subst (λ (x : Header). Answered publishedRules x (a .1 .0 .now) (a .1 .1 .0 .now) (g .1 .answer)) (s .5) (g .5); returned = p .5 .0; written = p .5 .1 },
+          (
+            λ _. tt,
+            λ p. (
+              refl,
+              λ back. (
+                (refl, (refl, (refl, (fix-len (a .1 .1 .1 .0 .ptr) (a .1 .1 .1 .0 .name) (p .2 .0) (a .1 .1 .1 .0 .now) back, tt)))),
+                room (ltb-false (length (a .1 .1 .1 .0 .now)) 3 miss) (g .1 .answer) (subst (λ (x : Header). Answered publishedRules x (a .1 .0 .now) (a .1 .1 .0 .now) (g .1 .answer)) (s .5) (g .5)) (p .5 .0) (p .5 .1),
+              ),
+            ),
           ),
         ),
       ),

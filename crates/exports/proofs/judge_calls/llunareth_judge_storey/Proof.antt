@@ -2,25 +2,29 @@ use mathlib.Core.List.{[], _∷_}
 use mathlib.Core.Path.{refl, ap, _∙_}
 use contract.Lifetimes.{Lfts, Shares}
 use contract.Running.{tablesOf}
-use mir.Syntax.{Ty, w64, tyInt, tyRef, named, erased, imm, mut}
+use mir.Syntax.{Ty, w64, unsigned, lt, tyInt, tyRef, named, erased, imm, mut}
 use denote.Memory.{pointee}
 use borrow.Kind.MutSlice.{fix-len}
 use borrow.Fn.Args.{vAt}
 use borrow.Fn.World.{World}
+use borrow.Author.Tests.{ltb-true, ltb-false}
 use borrow.Rule.Slice.Mut.{msleft}
 use borrow.Rule.Slice.Relend.{asMut, msptr, mslice-owed}
-use borrow.Table.Row.{Cx, lease, off, alive, dead}
+use borrow.Table.Row.{Cx, lease, off, alive, dead, sBool}
 use borrow.Table.Rows.{sc-here}
-use Rattle.walk.proofs.Walk.{told, S, _⨾_, _▸_, at, slot, from, fld, sc, gone, old, forget, ret, same, u64}
-use Rattle.walk.proofs.Slice.{R, kept, full, here, val-at, sh-at, sh-spares, sh-reads, mut-at, mut-is, mut-reads, slice, lend-on, back-on, owed-len}
+use Rattle.walk.proofs.Walk.{told, S, _⨾_, _▸_, at, slot, from, set, op2, lit, cp, fld, sc, gone, old, forget, when, ret, same, u64}
+use Rattle.walk.proofs.Slice.{R, kept, full, here, mut-len, val-at, sh-at, sh-spares, sh-reads, mut-at, mut-is, mut-reads, slice, lend-on, back-on, owed-len}
 use Rattle.walk.proofs.Array.{begin, end, over}
 use Rattle.walk.proofs.Fn.{Callee, Knows, Body, Answers, entry, callee, knows, call, meets}
 use Rattle.records.proofs.Structs.{member, storey}
 use Rattle.storeys.proofs.Structs.{storeyjudgment}
+use lib.ListN.{length}
 use Rattle.records.specs.declared.Storey.{Storey}
-use Rattle.storeys.specs.Storey.{returnedStorey, storeyReturned}
+use Rattle.records.specs.Records.{storeyBy}
+use Rattle.storeys.specs.Storey.{storeyReturned}
 use Rattle.members.specs.Finding.{Returned}
-use Rattle.exports.specs.Words.{ten}
+use Rattle.exports.specs.Words.{handed, storeyCount, packed}
+use Rattle.exports.proofs.Packed.{put, not-put}
 use Rattle.columns.specs.Line.{atFront}
 use Rattle.exports.proofs.Says as Says
 use Rattle.exports.proofs.Says.{words}
@@ -57,48 +61,59 @@ abbrev τ2 : Ty
 abbrev τ3 : Ty
 τ3 = tyRef (named 1) imm (pointee (R member .written))
 
-abbrev τ8 : Ty
-τ8 = tyRef erased mut (tyInt w64)
+abbrev τ10 : Ty
+τ10 = tyRef erased mut (tyInt w64)
 
 abbrev start : Lfts 3 → Shares 3 → Cx
 start κs qs = entry Says.llunareth-judge-storey K 1 Code.function κs qs
 
 abbrev cx1 : Lfts 3 → Shares 3 → Cx
-cx1 κs qs = at 4 (mslice-owed (words) (tyRef (named 2) mut (tyInt w64)) 2 3 (lease (κs .1 .1 .0) (qs .1 .1 .0))) (at 6 (kept storeyjudgment) (at 7 (msptr (words) (tyRef erased mut (tyInt w64)) 3) (slot 2 off (slot 3 alive (start κs qs)))))
+cx1 κs qs = at 4 (mslice-owed (words) (tyRef (named 2) mut (tyInt w64)) 2 3 (lease (κs .1 .1 .0) (qs .1 .1 .0))) (at 6 (kept storeyjudgment) (at 9 (msptr (words) (tyRef erased mut (tyInt w64)) 3) (slot 2 off (slot 3 alive (start κs qs)))))
 
 abbrev cx2 : Lfts 3 → Shares 3 → Cx
-cx2 κs qs = at 4 (mslice-owed (words) (tyRef (named 2) mut (tyInt w64)) 2 3 (lease (κs .1 .1 .0) (qs .1 .1 .0))) (at 0 (sc-here u64) (at 8 (msleft (words) (tyRef erased mut (tyInt w64))) (slot 2 off (slot 3 dead (start κs qs)))))
+cx2 κs qs = at 4 (mslice-owed (words) (tyRef (named 2) mut (tyInt w64)) 2 3 (lease (κs .1 .1 .0) (qs .1 .1 .0))) (at 0 (sc-here u64) (at 10 (msleft (words) (tyRef erased mut (tyInt w64))) (slot 2 off (slot 3 dead (start κs qs)))))
 
 abbrev body : Body Says.llunareth-judge-storey K 1 Code.function
 body κs qs bs =
-    call the-storey-given (λ s k. k .0) 5 (0 ∷ []) (sh-at 2 τ2 (λ x. x), tt) (λ s. (sh-spares s words τ2 0, sh-reads s words τ2 0, refl, tt)) gone (tt, tt) refl ⨾
+    set 7 u64 (fld 4 1 (mut-len words 2) refl) gone refl (λ u. refl) (λ u. tt) ⨾
+    op2 8 sBool (lt unsigned) (cp 7 (sc u64)) (lit w64 6 tt) gone refl (λ u. refl) (λ u. tt) ⨾
+    forget 7 (old u64) ▸
+    when 8 (λ t. t) (sc sBool) (old sBool) refl (set 0 u64 (lit w64 255 tt) gone refl (λ u. refl) (λ u. tt) ⨾ forget 1 (old u64) ▸ ret tt)
+    (from (start κs qs) (call the-storey-given (λ s k. k .0) 5 (0 ∷ []) (sh-at 2 τ2 (λ x. x), tt) (λ s. (sh-spares s words τ2 0, sh-reads s words τ2 0, refl, tt)) gone (tt, tt) refl ⨾
     call the-judge-storey (λ s k. k .1) 6 (1 ∷ []) (vAt 1 (λ x. x), (val-at 5 (λ x. x), (sh-at 3 τ3 (λ x. x), tt))) (λ s. ((sc u64 .is s, refl), ((here storey .is s, refl), (sh-spares s (R member) τ3 1, sh-reads s (R member) τ3 1, refl, tt)))) gone (tt, tt) refl ⨾
     forget 5 (full storey) ▸
-    begin 3 (tt, (tt, (tt, (tt, (tt, (tt, (tt, (tt, (tt, tt))))))))) ▸
-    lend-on words 7 4 2 3 same gone tt refl refl (λ b o. tt) ⨾
-    from (cx1 κs qs) (slice words (asMut words) 8 7 3 (fld 4 1 (owed-len words 2 3 (lease (κs .1 .1 .0) (qs .1 .1 .0))) refl) same gone refl refl (λ b o k. tt) ⨾
-    call the-put-storey (λ s k. k .2) 0 (3 ∷ []) (mut-at 8 τ8 (λ x. x), (val-at 6 (λ x. x), tt)) (λ s. (mut-is s words τ8 3, mut-reads s words τ8 3, refl, ((here storeyjudgment .is s, refl), tt))) gone (tt, tt) refl ⨾
+    begin 3 (tt, (tt, (tt, (tt, (tt, (tt, (tt, (tt, (tt, (tt, (tt, tt))))))))))) ▸
+    lend-on words 9 4 2 3 same gone tt refl refl (λ b o. tt) ⨾
+    from (cx1 κs qs) (slice words (asMut words) 10 9 3 (fld 4 1 (owed-len words 2 3 (lease (κs .1 .1 .0) (qs .1 .1 .0))) refl) same gone refl refl (λ b o k. tt) ⨾
+    call the-put-storey (λ s k. k .2) 0 (3 ∷ []) (mut-at 10 τ10 (λ x. x), (val-at 6 (λ x. x), tt)) (λ s. (mut-is s words τ10 3, mut-reads s words τ10 3, refl, ((here storeyjudgment .is s, refl), tt))) gone (tt, tt) refl ⨾
     forget 6 (full storeyjudgment) ▸
     end 3 refl ▸
-    from (cx2 κs qs) (back-on words 8 4 2 3 (lease (κs .1 .1 .0) (qs .1 .1 .0)) same same refl refl ▸
+    from (cx2 κs qs) (back-on words 10 4 2 3 (lease (κs .1 .1 .0) (qs .1 .1 .0)) same same refl refl ▸
     over 3 ▸
     forget 1 (old u64) ▸
-    ret tt))
+    ret tt))))
 
 answers : Answers Says.llunareth-judge-storey K 1 Code.function body
-answers κs qs a good pre bs = (
-  λ _. tt,
-  λ s. (
-    λ _. tt,
-    λ g. λ γ. (
-      refl,
-      (
+answers κs qs a good pre bs = let found : Returned = storeyReturned (a .0) (storeyBy (handed (a .1 .0 .now))) (a .1 .1 .0 .now) in (
+  tt,
+  (
+    λ hit. ((tt, (refl, (refl, (refl, tt)))), not-put storeyCount found (a .1 .1 .1 .0 .now) (ltb-true (length (a .1 .1 .1 .0 .now)) 6 hit)),
+    λ miss. (
+      λ _. tt,
+      λ s. (
         λ _. tt,
-        λ p. (
+        λ g. λ γ. (
           refl,
-          λ back. (
-            (tt, (refl, (refl, (fix-len (a .1 .1 .1 .0 .ptr) (a .1 .1 .1 .0 .name) (p .2 .0) (a .1 .1 .1 .0 .now) back, tt)))),
-            told (ap returnedStorey (g .5) ∙ ap (λ (x : Storey). storeyReturned (a .0) x (a .1 .1 .0 .now)) (s .5)) λ e. (p .5 .0 ∙ ap (λ (r : Returned). r .refusal) e, p .5 .1 ∙ ap (λ (r : Returned). atFront (ten r) (a .1 .1 .1 .0 .now)) e),
+          (
+            λ _. tt,
+            λ p. (
+              refl,
+              λ back. (
+                (tt, (refl, (refl, (fix-len (a .1 .1 .1 .0 .ptr) (a .1 .1 .1 .0 .name) (p .2 .0) (a .1 .1 .1 .0 .now) back, tt)))),
+                told (g .5 ∙ ap (λ (x : Storey). storeyReturned (a .0) x (a .1 .1 .0 .now)) (s .5)) λ e.
+                    put storeyCount found (a .1 .1 .1 .0 .now) (ltb-false (length (a .1 .1 .1 .0 .now)) 6 miss) (p .5 .0 ∙ ap packed e) (p .5 .1 ∙ ap (λ (r : Returned). atFront (r .values) (a .1 .1 .1 .0 .now)) e),
+              ),
+            ),
           ),
         ),
       ),

@@ -1,26 +1,39 @@
-use mathlib.Core.Path.{ap, _∙_}
-use mathlib.Core.List.{List}
-use Prim.Native.Nat.{ℕ}
-use lib.ListN.{getD}
-use Rattle.columns.specs.Line.{atFront}
+use mathlib.Core.Path.{_∙_}
+use Rattle.report.specs.Sheet.{returnedReport}
+use Rattle.exports.proofs.Packed.{record-refused}
 use borrow.Author.Needs.{needs}
 use Rattle.exports.proofs.report_calls.put_report.Statement.{statement}
 use Rattle.exports.proofs.report_calls.put_report.Tie as tie
 
-report-words-requires : tie.Need-report-words-requires
-report-words-requires c κs = search needs
+enum-known-a : tie.Need-enum-known-a
+enum-known-a c = search needs
 
-put-ten-requires : tie.Need-put-ten-requires
-put-ten-requires c κs = search needs
+slice-aggregate-put-words : tie.Need-slice-aggregate-put-words
+slice-aggregate-put-words c = search needs
+
+put-words-requires : tie.Need-put-words-requires
+put-words-requires c κs = search needs
+
+enum-known-a-2 : tie.Need-enum-known-a-2
+enum-known-a-2 c = search needs
 
 same-length : tie.Need-same-length
 same-length c = search needs
 
 returns : tie.Need-returns
-returns c =
-    let e = c .before .before .before .report-words .ensures in
-    let p = c .before .before .put-ten .ensures in
-    (p .0 ∙ ap (λ (w : List ℕ). getD w 0 0) e, p .1 ∙ ap (λ (w : List ℕ). atFront w (c .before .before .before .before .before .before .args .out .now)) e)
+returns c = (simp (c .before .before .before .before .before .before .a .given .1), c .before .before .put-words .ensures ∙ simp (c .before .before .before .before .before .before .a .given .1))
+
+returns-2 : tie.Need-returns-2
+returns-2 c = record-refused (returnedReport (c .before .before .before .before .args .r .answer)) (c .before .before .before .before .args .out .now) (c .before .a2 .given .0 .0) (simp (c .before .a2 .given .1))
 
 pub put-report-spec : {M : Type 1} → statement M
-put-report-spec = tie.close (tie.spec report-words-requires put-ten-requires same-length returns)
+put-report-spec =
+    tie.close
+    (tie.spec
+    enum-known-a
+    slice-aggregate-put-words
+    put-words-requires
+    enum-known-a-2
+    same-length
+    returns
+    returns-2)

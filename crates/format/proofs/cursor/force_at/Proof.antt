@@ -28,7 +28,7 @@ returns : tie.Need-returns
 returns c = let a = c .before .before .before .before .before .args in force-number (take 8 (drop (a .at) (a .s .now))) _ _ _ (sym (c .before .f .given .1) ∙ c .before .before .before .plain-at .ensures)
 
 returns-2 : tie.Need-returns-2
-returns-2 c = let a = c .before .before .before .before .before .args in c .minus-at .ensures ∙ rw (force-else (take 8 (drop (a .at) (a .s .now))) _ _ (sym (c .before .enum-told .given .1) ∙ c .before .before .before .plain-at .ensures))
+returns-2 c = let a = c .before .before .before .before .before .args in c .minus-at .ensures ∙ rw (force-else (take 8 (drop (a .at) (a .s .now))) _ _ _ (sym (c .before .enum-told .given .1) ∙ c .before .before .before .plain-at .ensures))
 
 pub force-at-spec : {M : Type 1} → statement M
 force-at-spec =

@@ -9,8 +9,8 @@ enum-known-f c = search needs
 range-fault-requires : tie.Need-range-fault-requires
 range-fault-requires c κs = search needs
 
-enum-told : tie.Need-enum-told
-enum-told c = search needs
+enum-known-f-2 : tie.Need-enum-known-f-2
+enum-known-f-2 c = search needs
 
 returns : tie.Need-returns
 returns c = c .range-fault .ensures ∙ simp (c .before .before .f .given .1)
@@ -19,4 +19,4 @@ returns-2 : tie.Need-returns-2
 returns-2 c = search needs
 
 pub fault-of-spec : {M : Type 1} → statement M
-fault-of-spec = tie.close (tie.spec enum-known-f range-fault-requires enum-told returns returns-2)
+fault-of-spec = tie.close (tie.spec enum-known-f range-fault-requires enum-known-f-2 returns returns-2)

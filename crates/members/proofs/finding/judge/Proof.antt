@@ -1,4 +1,7 @@
+use native.Mathlib.Omega.{arith}
+use mathlib.Core.Path.{_∙_}
 use Rattle.members.proofs.Assembly.{assembled}
+use Rattle.members.proofs.Rounding.{below-cap, whole}
 use borrow.Author.Needs.{needs}
 use Rattle.members.proofs.finding.judge.Statement.{statement}
 use Rattle.members.proofs.finding.judge.Tie as tie
@@ -15,6 +18,9 @@ moment-ratio-requires c κs = search needs
 m-limit-requires : tie.Need-m-limit-requires
 m-limit-requires c κs = search needs
 
+steps-requires : tie.Need-steps-requires
+steps-requires c κs = search needs
+
 rotation-limit-requires : tie.Need-rotation-limit-requires
 rotation-limit-requires c κs = search needs
 
@@ -29,12 +35,15 @@ axial-requires c κs = search needs
 
 returns : tie.Need-returns
 returns c =
-    let a = c .before .before .before .before .before .before .before .before .before .args in
+    let b = c .before .before .before .before .before .before .before .before .before .before in
+    let a = b .args in
+    let r = a .m .case .rotation in
     assembled (a .s) (a .k) (a .met) (a .m)
-    (c .before .before .before .before .before .before .before .class-of .ensures)
-    (c .before .before .before .before .before .before .ratios .ensures)
-    (c .before .before .before .before .before .moment-ratio .ensures)
-    (c .before .before .before .before .m-limit .ensures)
+    (c .before .before .before .before .before .before .before .before .class-of .ensures)
+    (c .before .before .before .before .before .before .before .ratios .ensures)
+    (c .before .before .before .before .before .before .moment-ratio .ensures)
+    (c .before .before .before .before .steps .ensures ∙ below-cap r 1 (omega arith) (omega (arith, b .pre .3 .rotation)) ∙ whole r)
+    (c .before .before .before .before .before .m-limit .ensures)
     (c .before .before .before .rotation-limit .ensures)
     (c .before .before .m-dropped .ensures)
     (c .before .exceeds .ensures)
@@ -48,6 +57,7 @@ judge-spec =
     ratios-requires
     moment-ratio-requires
     m-limit-requires
+    steps-requires
     rotation-limit-requires
     m-dropped-requires
     exceeds-requires

@@ -1,4 +1,4 @@
-use Rattle.members.specs.Finding.{ratios}
+use Rattle.members.specs.Assembly.{ratios}
 use borrow.Author.Needs.{needs}
 use Rattle.members.proofs.finding.ratios.Statement.{statement}
 use Rattle.members.proofs.finding.ratios.Tie as tie

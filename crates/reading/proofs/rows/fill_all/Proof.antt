@@ -32,7 +32,8 @@ use Rattle.records.proofs.numbers.count_of.Kinds as count-of-kinds
 use Rattle.records.proofs.numbers.count_of.Reads as count-of-reads
 use Rattle.reading.proofs.rows.fill_members.Met as fill-members-met
 use Rattle.reading.proofs.rows.fill_members.Symbol as fill-members-symbol
-use Rattle.reading.specs.Survey.{membersBefore, filledMembers}
+use Rattle.reading.specs.Survey.{membersBefore}
+use Rattle.reading.specs.Filling.{filledMembers}
 use Rattle.reading.proofs.Filling.{before-none, storey-lies, members-lie, next-small, before-next, filled-none, filled-next, filled-all}
 use Rattle.reading.proofs.Says as Says
 use Rattle.reading.proofs.Says.{bytes}

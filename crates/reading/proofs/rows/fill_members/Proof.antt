@@ -20,7 +20,8 @@ use Rattle.walk.proofs.Fn.{Callee, Knows, Body, Answers, entry, call, meets}
 use Rattle.records.proofs.Structs.{member}
 use Rattle.records.specs.declared.Member.{Member}
 use Rattle.format.specs.Lines.{memberAt}
-use Rattle.reading.specs.Survey.{lineStart, placed}
+use Rattle.reading.specs.Survey.{lineStart}
+use Rattle.reading.specs.Filling.{placed}
 use Rattle.reading.proofs.Placed.{placed-none, placed-step, placed-all}
 use Rattle.reading.proofs.Says as Says
 use Rattle.reading.proofs.Says.{bytes}

@@ -19,7 +19,8 @@ use Rattle.walk.proofs.Slice.{R, kept, full, here, mut-ptr, val-at, sh-at, sh-s
 use Rattle.walk.proofs.Fn.{Callee, Knows, Body, Answers, entry, call, meets}
 use Rattle.records.proofs.Structs.{storey}
 use Rattle.records.specs.declared.Storey.{Storey}
-use Rattle.reading.specs.Survey.{membersBefore, storey as storeyOf, placed}
+use Rattle.reading.specs.Survey.{membersBefore, storey as storeyOf}
+use Rattle.reading.specs.Filling.{placed}
 use Rattle.reading.proofs.Placed.{placed-none, placed-step, placed-all}
 use Rattle.reading.proofs.Filling.{before-none, storey-lies, storey-is, next-small, before-next}
 use Rattle.reading.proofs.Says as Says

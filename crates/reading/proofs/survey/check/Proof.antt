@@ -1,7 +1,7 @@
 use mathlib.Core.Path.{sym, ap, _∙_}
 use native.Mathlib.Omega.{arith}
 use Rattle.records.specs.declared.Header.{Header}
-use Rattle.reading.proofs.Numbers.{header-number, checked-number, ten-storeys, told-header, told-later, told-accepted}
+use Rattle.reading.proofs.Numbers.{ten-storeys, told-header, told-later, told-accepted}
 use borrow.Author.Needs.{needs}
 use Rattle.reading.proofs.survey.check.Statement.{statement}
 use Rattle.reading.proofs.survey.check.Tie as tie
@@ -9,20 +9,14 @@ use Rattle.reading.proofs.survey.check.Tie as tie
 header-line-requires : tie.Need-header-line-requires
 header-line-requires c κs = search needs
 
-refusal-of-requires : tie.Need-refusal-of-requires
-refusal-of-requires c κs = header-number (c .before .before .before .before .args .s .now) _ (c .before .before .header-line .ensures .fault) (c .if1 .taken)
-
 returns : tie.Need-returns
-returns c = rw (c .refusal-of .ensures) (told-header (c .before .before .before .before .before .args .s .now) (c .before .before .before .before .before .args .srows) (c .before .before .before .before .before .args .mrows) _ (c .before .before .before .header-line .ensures .fault) (c .before .if1 .taken))
+returns c = told-header (c .before .before .before .before .args .s .now) (c .before .before .before .before .args .srows) (c .before .before .before .before .args .mrows) _ (c .before .before .header-line .ensures .fault) (c .if1 .taken)
 
 storeys-fault-requires : tie.Need-storeys-fault-requires
 storeys-fault-requires c κs = let k = ap (λ (h : Header). h .count) (c .before .before .before .header-line .ensures .holds (c .before .if1 .left)) in omega (arith, ten-storeys (c .before .before .before .before .before .args .s .now) (sym (c .before .before .before .header-line .ensures .fault) ∙ c .before .if1 .left), k)
 
-refusal-of-requires-2 : tie.Need-refusal-of-requires-2
-refusal-of-requires-2 c κs = checked-number _ _ _ _ _ (c .before .before .storeys-fault .ensures) (c .if2 .taken)
-
 returns-2 : tie.Need-returns-2
-returns-2 c = let k = ap (λ (h : Header). h .count) (c .before .before .before .before .before .before .before .header-line .ensures .holds (c .before .before .before .before .before .if1 .left)) in rw (c .refusal-of2 .ensures) (told-later (c .before .before .before .before .before .before .before .before .before .args .s .now) (c .before .before .before .before .before .before .before .before .before .args .srows) (c .before .before .before .before .before .before .before .before .before .args .mrows) _ _ (sym (c .before .before .before .before .before .before .before .header-line .ensures .fault) ∙ c .before .before .before .before .before .if1 .left) k (c .before .before .before .storeys-fault .ensures) (c .before .if2 .taken))
+returns-2 c = let k = ap (λ (h : Header). h .count) (c .before .before .before .before .before .before .header-line .ensures .holds (c .before .before .before .before .if1 .left)) in told-later (c .before .before .before .before .before .before .before .before .args .s .now) (c .before .before .before .before .before .before .before .before .args .srows) (c .before .before .before .before .before .before .before .before .args .mrows) _ _ (sym (c .before .before .before .before .before .before .header-line .ensures .fault) ∙ c .before .before .before .before .if1 .left) k (c .before .before .storeys-fault .ensures) (c .if2 .taken)
 
 returns-3 : tie.Need-returns-3
 returns-3 c = let k = ap (λ (h : Header). h .count) (c .before .before .before .before .before .before .header-line .ensures .holds (c .before .before .before .before .if1 .left)) in told-accepted (c .before .before .before .before .before .before .before .before .args .s .now) (c .before .before .before .before .before .before .before .before .args .srows) (c .before .before .before .before .before .before .before .before .args .mrows) _ _ (sym (c .before .before .before .before .before .before .header-line .ensures .fault) ∙ c .before .before .before .before .if1 .left) k (c .before .before .storeys-fault .ensures) _ (c .before .before .before .before .before .before .header-line .ensures .holds (c .before .before .before .before .if1 .left)) (c .if2 .left)
@@ -32,9 +26,7 @@ check-spec =
     tie.close
     (tie.spec
     header-line-requires
-    refusal-of-requires
     returns
     storeys-fault-requires
-    refusal-of-requires-2
     returns-2
     returns-3)

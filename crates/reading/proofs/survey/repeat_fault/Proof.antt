@@ -6,13 +6,13 @@ use borrow.Author.Needs.{needs}
 use lib.ListN.{getD}
 use lib.Dec.{eqb}
 use borrow.Author.Tests.{eq-eqb, ne-eqb}
-use Rattle.records.specs.First.{any}
+use Rattle.records.specs.First.{anyBelow}
 use Rattle.records.proofs.Below.{any-none, any-more, any-holds}
 use Rattle.reading.proofs.survey.repeat_fault.Statement.{statement}
 use Rattle.reading.proofs.survey.repeat_fault.Tie as tie
 
 abbrev Inv-loop : tie.InvT-loop
-Inv-loop numbers n v e₀ e = (e ≤ n) × (any (λ (k : ℕ). eqb (getD numbers k 0) v) e ≡ false)
+Inv-loop numbers n v e₀ e = (e ≤ n) × (anyBelow (λ (k : ℕ). eqb (getD numbers k 0) v) e ≡ false)
 
 abbrev μ-loop : tie.MeasureT-loop
 μ-loop numbers n v e₀ e = n - e
@@ -39,7 +39,7 @@ loop-again : tie.Need-loop-again Inv-loop μ-loop
 loop-again c = let p : ℕ → Bool = λ (k : ℕ). eqb (getD (c .before .before .before .before .args .numbers .now) k 0) (c .before .before .before .before .args .v) in (omega arith, any-more p (c .before .before .before .loop .e) (c .before .before .before .loop .inv .1) (ne-eqb _ _ (c .if1 .left)))
 
 returns-2 : tie.Need-returns-2 Inv-loop μ-loop
-returns-2 c = let p : ℕ → Bool = λ (k : ℕ). eqb (getD (c .before .before .args .numbers .now) k 0) (c .before .before .args .v) in let q : c .before .loop .e ≡ c .before .before .args .n = omega arith in let z : any p (c .before .before .args .n) ≡ false = rw q at (c .before .loop .inv .1) in rw z
+returns-2 c = let p : ℕ → Bool = λ (k : ℕ). eqb (getD (c .before .before .args .numbers .now) k 0) (c .before .before .args .v) in let q : c .before .loop .e ≡ c .before .before .args .n = omega arith in let z : anyBelow p (c .before .before .args .n) ≡ false = rw q at (c .before .loop .inv .1) in rw z
 
 pub repeat-fault-spec : {M : Type 1} → statement M
 repeat-fault-spec =

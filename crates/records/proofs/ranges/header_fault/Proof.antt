@@ -1,7 +1,7 @@
 use mathlib.Core.Bool.{true, false}
 use mathlib.Core.Path.{_≡_, _∙_, sym}
 use borrow.Author.Tests.{not-true, not-false, lt-leb, le-leb}
-use Rattle.records.specs.First.{every}
+use Rattle.records.specs.First.{everyBelow}
 use Rattle.records.specs.declared.Tag.the-variants.{B, M}
 use Rattle.records.specs.Records.{inRange, headerValues, headerFault}
 use borrow.Author.Needs.{needs}
@@ -30,20 +30,20 @@ in-ranges-requires : tie.Need-in-ranges-requires
 in-ranges-requires c κs = search needs
 
 returns : tie.Need-returns
-unfolding headerFault every
-returns c = let e : every (inRange B (headerValues (c .before .before .args .h))) 6 ≡ false = sym (c .before .in-ranges .ensures) ∙ not-true _ (c .if1 .taken) in simp e
+unfolding headerFault everyBelow
+returns c = let e : everyBelow (inRange B (headerValues (c .before .before .args .h))) 6 ≡ false = sym (c .before .in-ranges .ensures) ∙ not-true _ (c .if1 .taken) in simp e
 
 returns-2 : tie.Need-returns-2
-unfolding headerFault every
-returns-2 c = let e : every (inRange B (headerValues (c .before .before .before .before .args .h))) 6 ≡ true = sym (c .before .before .before .in-ranges .ensures) ∙ not-false _ (c .before .before .if1 .left) in simp (e, lt-leb _ _ (c .if2 .taken))
+unfolding headerFault everyBelow
+returns-2 c = let e : everyBelow (inRange B (headerValues (c .before .before .before .before .args .h))) 6 ≡ true = sym (c .before .before .before .in-ranges .ensures) ∙ not-false _ (c .before .before .if1 .left) in simp (e, lt-leb _ _ (c .if2 .taken))
 
 returns-3 : tie.Need-returns-3
-unfolding headerFault every
-returns-3 c = let e : every (inRange B (headerValues (c .before .before .before .before .before .before .args .h))) 6 ≡ true = sym (c .before .before .before .before .before .in-ranges .ensures) ∙ not-false _ (c .before .before .before .before .if1 .left) in simp (e, le-leb _ _ (c .before .before .if2 .left), lt-leb _ _ (c .if3 .taken))
+unfolding headerFault everyBelow
+returns-3 c = let e : everyBelow (inRange B (headerValues (c .before .before .before .before .before .before .args .h))) 6 ≡ true = sym (c .before .before .before .before .before .in-ranges .ensures) ∙ not-false _ (c .before .before .before .before .if1 .left) in simp (e, le-leb _ _ (c .before .before .if2 .left), lt-leb _ _ (c .if3 .taken))
 
 returns-4 : tie.Need-returns-4
-unfolding headerFault every
-returns-4 c = let e : every (inRange B (headerValues (c .before .before .before .before .before .before .args .h))) 6 ≡ true = sym (c .before .before .before .before .before .in-ranges .ensures) ∙ not-false _ (c .before .before .before .before .if1 .left) in simp (e, le-leb _ _ (c .before .before .if2 .left), le-leb _ _ (c .if3 .left))
+unfolding headerFault everyBelow
+returns-4 c = let e : everyBelow (inRange B (headerValues (c .before .before .before .before .before .before .args .h))) 6 ≡ true = sym (c .before .before .before .before .before .in-ranges .ensures) ∙ not-false _ (c .before .before .before .before .if1 .left) in simp (e, le-leb _ _ (c .before .before .if2 .left), le-leb _ _ (c .if3 .left))
 
 pub header-fault-spec : {M : Type 1} → statement M
 header-fault-spec = tie.close (tie.spec array-write-vs array-write-vs-2 array-write-vs-3 array-write-vs-4 array-write-vs-5 array-write-vs-6 in-ranges-requires returns returns-2 returns-3 returns-4)

@@ -5,14 +5,14 @@ use mathlib.Core.Bool.{true}
 use mathlib.Core.Path.{_≡_, _∙_, sym}
 use native.Mathlib.Omega.{arith}
 use borrow.Author.Needs.{needs}
-use Rattle.records.specs.First.{every}
+use Rattle.records.specs.First.{everyBelow}
 use Rattle.records.proofs.Allowing.{fields-most}
 use Rattle.records.proofs.Below.{every-none, every-more, every-fails}
 use Rattle.records.proofs.ranges.in_ranges.Statement.{statement}
 use Rattle.records.proofs.ranges.in_ranges.Tie as tie
 
 abbrev Inv-loop : tie.InvT-loop
-Inv-loop tag vs n storeys j₀ j = (n ≡ fields tag) × (n ≤ 26) × (j ≤ n) × (every (inRange tag vs) j ≡ true)
+Inv-loop tag vs n storeys j₀ j = (n ≡ fields tag) × (n ≤ 26) × (j ≤ n) × (everyBelow (inRange tag vs) j ≡ true)
 
 abbrev μ-loop : tie.MeasureT-loop
 μ-loop tag vs n storeys j₀ j = n - j

@@ -5,7 +5,7 @@ use mathlib.Core.Path.{_≡_, _∙_, sym}
 use lib.ListN.{getD}
 use borrow.Author.Needs.{needs}
 use borrow.Author.Tests.{not-true, not-false}
-use Rattle.records.specs.First.{every}
+use Rattle.records.specs.First.{everyBelow}
 use Rattle.records.specs.Records.{inRange}
 use Rattle.records.specs.declared.Tag.the-variants.{M}
 use Rattle.records.proofs.Allowing.{in-tables}
@@ -14,7 +14,7 @@ use Rattle.records.proofs.ranges.member_in_ranges.Statement.{statement}
 use Rattle.records.proofs.ranges.member_in_ranges.Tie as tie
 
 abbrev Inv-loop : tie.InvT-loop
-Inv-loop vs least most j₀ j = (j ≤ 26) × (every (inRange M vs) j ≡ true)
+Inv-loop vs least most j₀ j = (j ≤ 26) × (everyBelow (inRange M vs) j ≡ true)
 
 abbrev μ-loop : tie.MeasureT-loop
 μ-loop vs least most j₀ j = 26 - j

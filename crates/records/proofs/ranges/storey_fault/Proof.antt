@@ -1,7 +1,7 @@
 use mathlib.Core.Bool.{true, false}
 use mathlib.Core.Path.{_≡_, _∙_, sym}
 use borrow.Author.Tests.{not-true, not-false}
-use Rattle.records.specs.First.{every}
+use Rattle.records.specs.First.{everyBelow}
 use Rattle.records.specs.declared.Tag.the-variants.{S, M}
 use Rattle.records.specs.Records.{inRange, storeyValues, storeyFault}
 use borrow.Author.Needs.{needs}
@@ -21,12 +21,12 @@ in-ranges-requires : tie.Need-in-ranges-requires
 in-ranges-requires c κs = search needs
 
 returns : tie.Need-returns
-unfolding storeyFault every
-returns c = let e : every (inRange S (storeyValues (c .before .before .args .s))) 3 ≡ false = sym (c .before .in-ranges .ensures) ∙ not-true _ (c .if1 .taken) in simp e
+unfolding storeyFault everyBelow
+returns c = let e : everyBelow (inRange S (storeyValues (c .before .before .args .s))) 3 ≡ false = sym (c .before .in-ranges .ensures) ∙ not-true _ (c .if1 .taken) in simp e
 
 returns-2 : tie.Need-returns-2
-unfolding storeyFault every
-returns-2 c = let e : every (inRange S (storeyValues (c .before .before .args .s))) 3 ≡ true = sym (c .before .in-ranges .ensures) ∙ not-false _ (c .if1 .left) in simp e
+unfolding storeyFault everyBelow
+returns-2 c = let e : everyBelow (inRange S (storeyValues (c .before .before .args .s))) 3 ≡ true = sym (c .before .in-ranges .ensures) ∙ not-false _ (c .if1 .left) in simp e
 
 pub storey-fault-spec : {M : Type 1} → statement M
 storey-fault-spec = tie.close (tie.spec array-write-vs array-write-vs-2 array-write-vs-3 in-ranges-requires returns returns-2)

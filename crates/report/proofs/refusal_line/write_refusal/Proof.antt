@@ -1,6 +1,6 @@
 use mathlib.Core.Path.{ap, _∙_}
 use lib.ListN.{length}
-use Rattle.columns.specs.Line.{putAt, placeAfter}
+use Rattle.columns.specs.Bytes.{putAt, placeAfter}
 use Rattle.columns.proofs.Stamps.{put-front, place-front}
 use Rattle.report.specs.Sheet.{refusalLine}
 use Rattle.report.proofs.Printing.{refusal-line-is}

@@ -3,8 +3,8 @@ use native.Mathlib.Omega.{arith}
 use lib.ListN.{length, drop}
 use borrow.Author.Tests.{ltb-true, ltb-false}
 use borrow.Kind.Bool.{bAt}
-use Rattle.storeys.specs.Storey.{noMember}
-use Rattle.columns.specs.Line.{stamped}
+use Rattle.records.specs.Blank.{noMember}
+use Rattle.columns.specs.Bytes.{stamped}
 use Rattle.report.specs.Sheet.{memberLines}
 use Rattle.report.proofs.Rows.{member-good, members-next, members-end}
 use mathlib.Core.List.{List, [], _∷_}

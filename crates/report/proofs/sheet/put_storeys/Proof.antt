@@ -2,8 +2,9 @@ use Prim.Native.Nat.{ℕ, _+_, _*_, _-_, _≤_}
 use native.Mathlib.Omega.{arith}
 use lib.ListN.{length}
 use borrow.Author.Tests.{ltb-true, ltb-false}
-use Rattle.storeys.specs.Building.{noStorey, storeyIn, membersBefore}
-use Rattle.columns.specs.Line.{stamped}
+use Rattle.records.specs.Blank.{noStorey}
+use Rattle.storeys.specs.Building.{storeyIn, membersBefore}
+use Rattle.columns.specs.Bytes.{stamped}
 use Rattle.report.specs.Sheet.{storeyLines, storeysLines}
 use Rattle.report.proofs.Survey.{members-most, part-clear, part-size, part-ends, all-printed, storeys-next, storeys-end}
 use Rattle.storeys.proofs.BuildingRows.{none-before, next-before, part-is}

@@ -2,7 +2,8 @@ use native.Mathlib.Omega.{arith}
 use lib.ListN.{length}
 use mathlib.Core.Bool.{false}
 use borrow.Author.Tests.{ltb-true, ltb-false}
-use Rattle.storeys.specs.Building.{noStorey, membersBefore}
+use Rattle.records.specs.Blank.{noStorey}
+use Rattle.storeys.specs.Building.{membersBefore}
 use Rattle.storeys.proofs.BuildingRows.{left-all, left-next, too-few, fits-all}
 use Prim.Native.Nat.{ℕ, _+_, _-_, _≤_}
 use mathlib.Core.List.{[]}

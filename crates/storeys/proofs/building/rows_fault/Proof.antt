@@ -3,7 +3,8 @@ use lib.ListN.{length}
 use lib.Dec.{eqb}
 use borrow.Author.Tests.{ltb-true, ltb-false, eqb-true, eqb-false, not-true, not-false}
 use Rattle.records.specs.First.{first}
-use Rattle.storeys.specs.Building.{noStorey, membersBefore, storeyRowsFault}
+use Rattle.records.specs.Blank.{noStorey}
+use Rattle.storeys.specs.Building.{membersBefore, storeyRowsFault}
 use Rattle.storeys.proofs.BuildingRows.{none-before, next-before, next-within, rows-none, rows-all, own-refused, members-refused, rows-next}
 use Prim.Native.Nat.{ℕ, _+_, _-_, _≤_}
 use mathlib.Core.List.{[], _∷_}

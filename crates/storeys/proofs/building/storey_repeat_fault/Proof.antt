@@ -2,8 +2,9 @@ use native.Mathlib.Omega.{arith}
 use lib.Dec.{eqb}
 use borrow.Author.Tests.{ltb-true, ltb-false}
 use mathlib.Core.Bool.{false}
-use Rattle.records.specs.First.{any}
-use Rattle.storeys.specs.Building.{noStorey, storeyIn}
+use Rattle.records.specs.First.{anyBelow}
+use Rattle.records.specs.Blank.{noStorey}
+use Rattle.storeys.specs.Building.{storeyIn}
 use Rattle.storeys.proofs.BuildingRows.{repeat-none, repeat-next, repeat-found, repeat-all}
 use Prim.Native.Nat.{ℕ, _+_, _-_, _≤_}
 use mathlib.Core.List.{[]}
@@ -47,7 +48,7 @@ abbrev body : Body Says.storey-repeat-fault K 0 Code.function
 body κs qs bs =
     set 4 u64 (lit w64 0 tt) gone refl (λ u. refl) (λ u. tt) ⨾
     from (cx1 κs qs) (while (λ (vs : ℕ) u. (u .0, (u .1 .0, (u .1 .1 .0, (u .1 .1 .1 .0, (vs, u .1 .1 .1 .1 .1))))))
-    (λ u vs. (vs ≤ u .1 .1 .0) × (any (λ (e : ℕ). eqb (storeyIn (u .1 .0 .now) e .number) (u .1 .1 .1 .0)) vs ≡ false))
+    (λ u vs. (vs ≤ u .1 .1 .0) × (anyBelow (λ (e : ℕ). eqb (storeyIn (u .1 .0 .now) e .number) (u .1 .1 .1 .0)) vs ≡ false))
     (λ u vs. u .1 .1 .0 - vs)
     (op2 5 sBool (lt unsigned) (cp 4 (sc u64)) (cp 2 (sc u64)) gone refl (λ u. refl) (λ u. tt) ⨾
     test 5 (λ t. t) (sc sBool) (old sBool) refl (exits 1 tt)

@@ -2,7 +2,8 @@ use native.Mathlib.Omega.{arith}
 use lib.ListN.{length}
 use borrow.Author.Tests.{ltb-true, ltb-false}
 use Rattle.storeys.specs.declared.verdict.Verdict.{Verdict}
-use Rattle.storeys.specs.Building.{noStorey, membersBefore}
+use Rattle.records.specs.Blank.{noStorey}
+use Rattle.storeys.specs.Building.{membersBefore}
 use Rattle.storeys.specs.Verdict.{verdictOf}
 use Rattle.storeys.proofs.Structs.{storeyfinding, verdict}
 use Rattle.storeys.proofs.BuildingRows.{none-before, next-before, next-within, verdict-none, verdict-all, found-due, verdict-next}

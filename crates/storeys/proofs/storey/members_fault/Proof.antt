@@ -4,7 +4,8 @@ use mathlib.Core.List.{[], _∷_}
 use mathlib.Core.Path.{_≡_, refl}
 use lib.ListN.{length}
 use borrow.Author.Tests.{ltb-true, ltb-false, eqb-true, eqb-false, not-true, not-false}
-use Rattle.storeys.specs.Storey.{noMember, rowFault}
+use Rattle.records.specs.Blank.{noMember}
+use Rattle.storeys.specs.Storey.{rowFault}
 use Rattle.records.specs.First.{first}
 use Rattle.storeys.proofs.Loops.{clear-none, refused-here, clear-next, clear-all}
 use contract.Lifetimes.{Lfts, Shares}

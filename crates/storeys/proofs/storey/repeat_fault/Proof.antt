@@ -5,8 +5,9 @@ use mathlib.Core.List.{[]}
 use mathlib.Core.Path.{_≡_, refl}
 use lib.Dec.{eqb}
 use borrow.Author.Tests.{ltb-true, ltb-false}
-use Rattle.storeys.specs.Storey.{noMember, memberIn}
-use Rattle.records.specs.First.{any}
+use Rattle.records.specs.Blank.{noMember}
+use Rattle.storeys.specs.Storey.{memberIn}
+use Rattle.records.specs.First.{anyBelow}
 use Rattle.storeys.proofs.Loops.{unseen, unseen-next, seen-here, unseen-all}
 use contract.Lifetimes.{Lfts, Shares}
 use contract.Running.{tablesOf}
@@ -47,7 +48,7 @@ abbrev body : Body Says.repeat-fault K 0 Code.function
 body κs qs bs =
     set 4 u64 (lit w64 0 tt) gone refl (λ u. refl) (λ u. tt) ⨾
     from (cx1 κs qs) (while (λ (vs : ℕ) u. (u .0, (u .1 .0, (u .1 .1 .0, (u .1 .1 .1 .0, (vs, u .1 .1 .1 .1 .1))))))
-    (λ u vs. (vs ≤ u .1 .1 .0) × (any (λ (e : ℕ). eqb (memberIn (u .1 .0 .now) e .number) (u .1 .1 .1 .0)) vs ≡ false))
+    (λ u vs. (vs ≤ u .1 .1 .0) × (anyBelow (λ (e : ℕ). eqb (memberIn (u .1 .0 .now) e .number) (u .1 .1 .1 .0)) vs ≡ false))
     (λ u vs. u .1 .1 .0 - vs)
     (op2 5 sBool (lt unsigned) (cp 4 (sc u64)) (cp 2 (sc u64)) gone refl (λ u. refl) (λ u. tt) ⨾
     test 5 (λ t. t) (sc sBool) (old sBool) refl (exits 1 tt)

@@ -5,7 +5,7 @@ use mathlib.Core.List.{[]}
 use mathlib.Core.Path.{refl}
 use lib.ListN.{length}
 use borrow.Author.Tests.{ltb-true, ltb-false}
-use Rattle.storeys.specs.Storey.{noMember}
+use Rattle.records.specs.Blank.{noMember}
 use Rattle.storeys.specs.declared.row.Tally.{Tally}
 use Rattle.storeys.proofs.Loops.{Going, going-none, tally-room, going-next, going-all}
 use contract.Lifetimes.{Lfts, Shares}

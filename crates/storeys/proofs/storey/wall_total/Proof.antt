@@ -4,7 +4,8 @@ use mathlib.Core.List.{[]}
 use mathlib.Core.Path.{_≡_, refl}
 use lib.ListN.{length, drop}
 use borrow.Author.Tests.{ltb-true, ltb-false}
-use Rattle.storeys.specs.Storey.{noMember, wallShear}
+use Rattle.records.specs.Blank.{noMember}
+use Rattle.storeys.specs.Storey.{wallShear}
 use Rattle.records.specs.Totals.{total}
 use Rattle.storeys.proofs.Loops.{wall-room, wall-next, wall-all}
 use contract.Lifetimes.{Lfts, Shares}

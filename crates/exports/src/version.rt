@@ -1,0 +1,13 @@
+// The version of the calls.
+ghost use mathlib.Core.Path.{_≡_};
+ghost use Rattle.exports.specs.Words.{version};
+
+// The form of the calls: a change of one raises it.
+const VERSION: u64 = 2;
+
+#[no_mangle]
+pub extern "C" fn llunareth_version() -> u64
+    ensures { λ r. ⌜ r ≡ version ⌝ }
+{
+    VERSION
+}
