@@ -19,15 +19,18 @@ use Rattle.members.specs.Finding.{knowledge, answerBy, Returned}
 use Rattle.storeys.specs.declared.BuildingFinding.{BuildingFinding}
 use Rattle.storeys.specs.declared.BuildingAnswer.{BuildingAnswer}
 use Rattle.storeys.specs.declared.BuildingAnswer.the-variants.{Judged, Refused}
-use Rattle.storeys.specs.Storey.{Rules, meetsWallShare, over, overShear, storeyRisky, storeyFinding, countFault, knowledgeFault, shearFault, memberIn, rowFault, memberRowsFault, storeyCallFault, storeyAnswerBy}
+use Rattle.storeys.specs.Storey.{Rules, meetsWallShare, over, overShear, storeyRisky, storeyFinding, knowledgeFault, shearFault, storeyCallFault, storeyAnswerBy}
+use Rattle.records.specs.Rows.{countFault, memberIn, rowFault, memberRowsFault}
 use Rattle.records.specs.Blank.{noMember}
-use Rattle.storeys.specs.Building.{storeyIn, membersOf, shearFaultAt, buildingFault, buildingRisky, buildingFinding, buildingAnswerBy, placeIn, returnedBuilding}
+use Rattle.records.specs.Rows.{storeyIn, membersOf}
+use Rattle.storeys.specs.Building.{shearFaultAt, buildingFault, buildingRisky, buildingFinding, buildingAnswerBy, placeIn, returnedBuilding}
 use Rattle.comparison.specs.Demand3.{Survey, knowledgeOf, StoreyMembers, storeyMembersAt, storeysMembers, Accepted, overIn, riskyIn, buildingRiskyIn}
 use Rattle.comparison.proofs.Pairs.{All, all-rows, all-listed}
 use Rattle.comparison.proofs.Tests.{never}
 use Rattle.storeys.proofs.Returned.{answer-same}
-use Rattle.storeys.proofs.Refusals.{None, end, also, one, rest, in-order-clear, in-order-none, first-clear}
-use Rattle.storeys.proofs.Accepted.{known-level, members-counted, total-counted, rows, checks}
+use Rattle.records.proofs.Refusals.{None, end, also, one, rest, in-order-clear, in-order-none, first-clear}
+use Rattle.storeys.proofs.Accepted.{known-level, total-counted, rows, checks}
+use Rattle.records.proofs.RowLaws.{members-counted}
 
 -- a storey on which the call refuses nothing
 pub record Sound (rules : Rules) (k : ℕ) (f : StoreyMembers) : Type 0 where

@@ -16,9 +16,11 @@ use Rattle.members.specs.Limits.{interp, blend, columnA, columnB, columnC, wall
 use Rattle.members.specs.Finding.{axial, moment, stress, hoops, mLimit, rotationLimit, mDropped, isOver, findingBy, answerBy}
 use Rattle.storeys.specs.declared.BuildingAnswer.{BuildingAnswer}
 use Rattle.storeys.specs.declared.BuildingAnswer.the-variants.{Judged}
-use Rattle.storeys.specs.Storey.{publishedRules, meetsWallShare, axialTotal, overShear, someOver, damaged, exceedsShare, riskyByDamage, storeyRisky, storeyFinding, rowFault, memberRowsFault, storeyCallFault, storeyAnswerBy}
+use Rattle.storeys.specs.Storey.{publishedRules, meetsWallShare, axialTotal, overShear, someOver, damaged, exceedsShare, riskyByDamage, storeyRisky, storeyFinding, storeyCallFault, storeyAnswerBy}
+use Rattle.records.specs.Rows.{rowFault, memberRowsFault}
 use Rattle.records.specs.Blank.{noMember}
-use Rattle.storeys.specs.Building.{membersBefore, membersOf, riskyAt, countsFault, storeyRowsFault, shearFaultAt, buildingFault, tilted, someRisky, buildingRisky, buildingFinding, buildingAnswerBy, named}
+use Rattle.records.specs.Rows.{membersBefore, membersOf, countsFault, storeyRowsFault}
+use Rattle.storeys.specs.Building.{riskyAt, shearFaultAt, buildingFault, tilted, someRisky, buildingRisky, buildingFinding, buildingAnswerBy, named}
 use Rattle.comparison.specs.Pairing.{none, pair, EveryPair}
 use Rattle.comparison.specs.Demand3.{Survey, storeyMembersAt, Accepted, Over, Risky, BuildingRisky, StoreyPairs, AtLeastAsSevere, NowhereBetter, Carried}
 use Rattle.comparison.proofs.Tests.{never}

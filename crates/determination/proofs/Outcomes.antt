@@ -20,7 +20,8 @@ use Rattle.report.proofs.Returned.{report-answer-is}
 use Rattle.records.specs.First.{everyBelow}
 use Rattle.records.specs.Records.{headerFault}
 use Rattle.records.specs.Totals.{total}
-use Rattle.storeys.specs.Building.{buildingFault, countsFault}
+use Rattle.storeys.specs.Building.{buildingFault}
+use Rattle.records.specs.Rows.{countsFault}
 use Rattle.report.proofs.Called.{sheet-fits}
 use Rattle.determination.specs.Answers.{blank, headerTold, membersTold, lengthBy, bytesBy, lengthTold, bytesTold}
 use Rattle.determination.specs.Determination.{inputMost, storeyRows, memberRows, text, printed}

@@ -14,7 +14,8 @@ use borrow.Kind.ShrSlice.{pShrS}
 use borrow.Kind.MutSlice.{pMutS}
 use borrow.Table.Referent.{rtF, fInt}
 use Rattle.members.specs.Finding.{knowledge}
-use Rattle.storeys.specs.Storey.{publishedRules, memberRowsFault, storeyCallFault}
+use Rattle.storeys.specs.Storey.{publishedRules, storeyCallFault}
+use Rattle.records.specs.Rows.{memberRowsFault}
 use Rattle.storeys.specs.Building.{buildingFault}
 use Rattle.walk.proofs.Fn.{Plain}
 use Rattle.walk.proofs.Slice.{R, taken, made}

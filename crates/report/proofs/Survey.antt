@@ -17,11 +17,14 @@ use Rattle.records.specs.declared.Tag.the-variants.{B}
 use Rattle.records.proofs.Below.{and-right, every-at}
 use Rattle.records.proofs.Validity.{count-most, clear}
 use Rattle.records.specs.Totals.{total}
-use Rattle.storeys.specs.Storey.{publishedRules, countFault, knowledgeFault, memberRowsFault, storeyCallFault}
-use Rattle.storeys.specs.Building.{storeyIn, membersBefore, membersOf, countsFault, storeyRowsFault, shearFaultAt, buildingFault}
-use Rattle.storeys.proofs.Refusals.{None, end, also, one, rest, in-order-clear, in-order-none, first-clear, count-clear}
-use Rattle.storeys.proofs.Accepted.{before-next, members-counted, known-level}
-use Rattle.storeys.proofs.BuildingRows.{next-within, part-is}
+use Rattle.storeys.specs.Storey.{publishedRules, knowledgeFault, storeyCallFault}
+use Rattle.records.specs.Rows.{countFault, memberRowsFault}
+use Rattle.records.specs.Rows.{storeyIn, membersBefore, membersOf, countsFault, storeyRowsFault}
+use Rattle.storeys.specs.Building.{shearFaultAt, buildingFault}
+use Rattle.records.proofs.Refusals.{None, end, also, one, rest, in-order-clear, in-order-none, first-clear, count-clear}
+use Rattle.records.proofs.RowLaws.{before-next, members-counted}
+use Rattle.storeys.proofs.Accepted.{known-level}
+use Rattle.records.proofs.RowLoops.{next-within, part-is}
 use Rattle.columns.specs.Bytes.{stamped}
 use Rattle.report.specs.Sheet.{storeyLines, storeysLines}
 use Rattle.columns.proofs.Stamps.{stamped-none, stamped-both}

@@ -13,7 +13,8 @@ use Rattle.members.specs.Class.{code}
 use Rattle.members.specs.Finding.{finding, flag, knowledge, Returned, refused}
 use Rattle.members.specs.declared.finding.Finding.{Finding}
 use Rattle.storeys.specs.Storey.{publishedRules, meetsWallShare, storeyFinding}
-use Rattle.storeys.specs.Building.{storeyIn, membersOf, tilted, buildingRisky, buildingFault}
+use Rattle.records.specs.Rows.{storeyIn, membersOf}
+use Rattle.storeys.specs.Building.{tilted, buildingRisky, buildingFault}
 use Rattle.storeys.specs.declared.StoreyFinding.{StoreyFinding}
 use Rattle.report.specs.declared.ReportAnswer.{ReportAnswer}
 use Rattle.report.specs.declared.ReportAnswer.the-variants.{Written, Refused}

@@ -1,4 +1,3 @@
-pub mod Refusals
 pub mod Accepted
 pub mod Rows
 pub mod Loops
