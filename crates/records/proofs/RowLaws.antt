@@ -30,6 +30,11 @@ before-within [] i = rw (before-none i) (omega arith)
 before-within (s ∷ ss) zero = omega arith
 before-within (s ∷ ss) (suc i) = omega (arith, before-next s ss i, before-within ss i)
 
+pub before-all : (ss : List Storey) → membersBefore ss (length ss) ≡ total (λ s. s .count) ss
+unfolding total membersBefore
+before-all [] = refl
+before-all (s ∷ ss) = omega (arith, before-next s ss (length ss), before-all ss)
+
 pub members-counted : (ss : List Storey) (ms : List Member) (i : ℕ) → total (λ s. s .count) ss ≡ length ms → storeyIn ss i .count ≡ length (membersOf ss ms i)
 unfolding membersOf membersBefore
 members-counted ss ms i e =

@@ -18,7 +18,7 @@ use borrow.Author.Tests.{eqb-true, eqb-false, eq-eqb, ne-eqb}
 use Rattle.records.specs.declared.Storey.{Storey}
 use Rattle.records.specs.RowChecks.{Counted, headerCallFault}
 use Rattle.records.proofs.Refusals.{None, one, rest, in-order-clear, count-clear}
-use Rattle.records.proofs.RowLaws.{before-within, before-next}
+use Rattle.records.proofs.RowLaws.{before-within, before-all}
 use Rattle.records.specs.declared.Header.{Header}
 
 -- ---- a number among those before
@@ -75,11 +75,6 @@ before-none ss = refl
 before-suc : (ss : List Storey) (i : ℕ) → membersBefore ss (i + 1) ≡ membersBefore ss i + storeyIn ss i .count
 unfolding membersBefore
 before-suc ss i = rw add-one
-
-before-all : (ss : List Storey) → membersBefore ss (length ss) ≡ counts ss
-unfolding total
-before-all [] = before-none []
-before-all (s ∷ ss) = before-next s ss (length ss) ∙ ap (λ (n : ℕ). s .count + n) (before-all ss)
 
 -- ---- the counts
 module _ (ss : List Storey) (rows : ℕ) where
