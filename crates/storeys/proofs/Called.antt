@@ -38,7 +38,7 @@ shear-most s e =
     leb-true (s .shear) 9_999_999 (and-right (leb 1 (s .shear)) (leb (s .shear) 9_999_999) (every-at (inRange S (storeyValues s)) 3 1 t (omega arith)))
 
 -- a total of bounded terms
-total-most : {A : Type 0} (f : A → ℕ) (d : A) (n : ℕ) (xs : List A) → ((j : ℕ) → j < length xs → f (getD xs j d) ≤ n) → total f xs ≤ n * length xs
+pub total-most : {A : Type 0} (f : A → ℕ) (d : A) (n : ℕ) (xs : List A) → ((j : ℕ) → j < length xs → f (getD xs j d) ≤ n) → total f xs ≤ n * length xs
 unfolding total
 total-most f d n [] h = omega arith
 total-most f d n (x ∷ xs) h =

@@ -8,3 +8,4 @@ pub mod Verdicts
 pub mod BuildingRows
 pub mod BuildingAnswers
 pub mod Returned
+pub mod Shears
