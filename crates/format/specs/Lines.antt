@@ -40,7 +40,7 @@ isForce M j = eqb j 17 || eqb j 18
 unfoldable pub fieldAt : Tag → List ℕ → ℕ → ℕ → Option ℕ
 fieldAt tag s at j = fieldOf (isForce tag j) (take 8 (drop (at + 1 + 8 * j) s))
 
--- that number; 0 where there is none
+-- that number; 0 where there is none: past a refused field it means nothing, and the refusal comes first
 abbrev pub numberIn : Option ℕ → ℕ
 numberIn (some v) = v
 numberIn none = 0

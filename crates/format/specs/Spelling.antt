@@ -27,7 +27,7 @@ same [] (b ∷ bs) = false
 same (a ∷ as′) [] = false
 same (a ∷ as′) (b ∷ bs) = eqb a b && same as′ bs
 
--- the number that the digits among some bytes make, after the number v
+-- the number that the digits among some bytes make, after the number v. Other bytes are passed over here: `written` spells the number again and compares
 abbrev pub pushed : ℕ → ℕ → ℕ
 pushed v b = pick (leb 48 b && leb b 57) (v * 10 + (b - 48)) v
 

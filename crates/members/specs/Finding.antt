@@ -61,7 +61,7 @@ mLimit s k m = mLimitAt s (classOf k m) (m .zone) (m .strengthened) (axialRatio 
 unfoldable pub rotationLimit : LimitSet → ℕ → Member → Microradians
 rotationLimit s k m = rotationLimitAt s (classOf k m) (m .zone) (m .strengthened) (m .factor) (axialRatio m .0) (wallStress m .0) (hoopRatio m .0)
 
--- "The m test is dropped for a wall with drift < 7,500 and 100 × V_e < k × V_r, in a storey whose walls' V total ≥ 0.40 × storey shear": met
+-- "The m test is dropped for a wall with drift < 7,500 and 100 × V_e < k × V_r, in a storey whose walls' V total ≥ 0.40 × storey shear", which `met` says of the member's storey
 unfoldable pub mDropped : ℕ → Bool → Member → Bool
 mDropped k met m = met && (isWall m && (ltb (m .case .drift) 7_500 && shearBelow k (m .case .ve) (m .case .vr)))
 

@@ -24,7 +24,7 @@ hoopScale = 1_000_000
 abbrev pub hoopCap : ℕ
 hoopCap = 999_999
 
--- what the field of a rotation holds at most ("run from 0 .. to 9,999,999")
+-- what the field of a rotation holds at most ("run from 0 .. to 9,999,999"): the cap of the code's unit, which no limit reaches (`below-cap` of proofs/Rounding)
 abbrev pub microCap : ℕ
 microCap = 9_999_999
 
@@ -54,7 +54,7 @@ hoopDown a b = hoop (min hoopCap (floor (a * hoopScale) b))
 abbrev pub microDown : ℕ → ℕ → Microradians
 microDown a b = microradians (min microCap (floor a b))
 
--- a limit of a / b steps of its grid, rounded down. That of a rotation stays below the cap (`below-cap` of proofs/)
+-- a limit of a / b steps of its grid, rounded down.
 abbrev pub ratioSteps : ℕ → ℕ → Ratio
 ratioSteps a b = ratio (floor a b)
 

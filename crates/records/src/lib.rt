@@ -71,7 +71,7 @@ pub struct Member {
     pub case: LoadCase,
 }
 
-// What one load case brings to a member.
+// Fields 19 to 26: what one load case brings to a member. The grouping changes no rule.
 #[repr(C)]
 pub struct LoadCase {
     // N_K, counted from -20,000,000
