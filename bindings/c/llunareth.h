@@ -193,15 +193,15 @@ uint64_t llunareth_member_fault(const uint64_t *values, size_t values_len);
 uint64_t llunareth_judge_member(uint64_t k, bool met, const uint64_t *values, size_t values_len, uint64_t *out, size_t out_len);
 
 /*
- * Judges a storey, given by its numbers, with k and the rows of its members. Refused by 1 where its count is not the rows; by 3, 4, 5 or
- * 10.
+ * Judges a storey, given by its numbers, with k and the rows of its members. Refused by 1 where its count is not the rows; by 3, 4
+ * or 5.
  */
 uint64_t llunareth_judge_storey(uint64_t k, const uint64_t *storey, size_t storey_len, const struct llunareth_member *members,
                                 size_t members_len, uint64_t *out, size_t out_len);
 
 /*
  * Judges a building, given by its header's numbers, the rows of its storeys, and the rows of the members of all of them in survey order.
- * Refused by 1 where a count is not the rows; by 3, 4, 5, 7 or 10.
+ * Refused by 1 where a count is not the rows; by 3, 4, 5 or 7.
  */
 uint64_t llunareth_judge_building(const uint64_t *header, size_t header_len, const struct llunareth_storey *storeys, size_t storeys_len,
                                   const struct llunareth_member *members, size_t members_len, uint64_t *out, size_t out_len);

@@ -109,7 +109,7 @@ pub fn judge_member(k: u64, met: bool, member: &Member) -> Result<MemberFinding,
     Ok(MemberFinding { class, m, m_limit, rotation, rotation_limit, over: over == 1, nd })
 }
 
-/// Judges a storey with k and its members. Refused by 1 where its count is not that of the members; by 3, 4, 5 or 10.
+/// Judges a storey with k and its members. Refused by 1 where its count is not that of the members; by 3, 4 or 5.
 ///
 /// ```
 /// # let file = std::fs::read("../../samples/worked-example.survey")?;
@@ -129,7 +129,7 @@ pub fn judge_storey(k: u64, storey: &Storey, members: &[Member]) -> Result<Store
 }
 
 /// Judges a building, given by its header, its storeys, and the members of all of them in survey order. Refused by 1 where a count is not that
-/// of the rows; by 3, 4, 5, 7 or 10.
+/// of the rows; by 3, 4, 5 or 7.
 ///
 /// ```
 /// # let file = std::fs::read("../../samples/plain-block.survey")?;

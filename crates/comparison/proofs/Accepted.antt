@@ -19,23 +19,24 @@ use Rattle.members.specs.Finding.{knowledge, answerBy, Returned}
 use Rattle.storeys.specs.declared.BuildingFinding.{BuildingFinding}
 use Rattle.storeys.specs.declared.BuildingAnswer.{BuildingAnswer}
 use Rattle.storeys.specs.declared.BuildingAnswer.the-variants.{Judged, Refused}
-use Rattle.storeys.specs.Storey.{Rules, meetsWallShare, over, overShear, storeyRisky, storeyFinding, countFault, knowledgeFault, shearFault, memberIn, rowFault, memberRowsFault, storeyCallFault, storeyAnswerBy}
+use Rattle.storeys.specs.Storey.{Rules, over, storeyRisky, storeyFinding, knowledgeFault, storeyCallFault, storeyAnswerBy}
+use Rattle.records.specs.Rows.{countFault, memberIn, rowFault, memberRowsFault, storeyIn, membersOf, recordsFault}
 use Rattle.records.specs.Blank.{noMember}
-use Rattle.storeys.specs.Building.{storeyIn, membersOf, shearFaultAt, buildingFault, buildingRisky, buildingFinding, buildingAnswerBy, placeIn, returnedBuilding}
+use Rattle.storeys.specs.Building.{buildingRisky, buildingFinding, buildingAnswerBy, placeIn, returnedBuilding}
 use Rattle.comparison.specs.Demand3.{Survey, knowledgeOf, StoreyMembers, storeyMembersAt, storeysMembers, Accepted, overIn, riskyIn, buildingRiskyIn}
 use Rattle.comparison.proofs.Pairs.{All, all-rows, all-listed}
 use Rattle.comparison.proofs.Tests.{never}
 use Rattle.storeys.proofs.Returned.{answer-same}
-use Rattle.storeys.proofs.Refusals.{None, end, also, one, rest, in-order-clear, in-order-none, first-clear}
-use Rattle.storeys.proofs.Accepted.{known-level, members-counted, total-counted, rows, checks}
+use Rattle.records.proofs.Refusals.{None, end, also, one, rest, in-order-clear, in-order-none, first-clear}
+use Rattle.storeys.proofs.Accepted.{known-level}
+use Rattle.records.proofs.RowLaws.{members-counted, total-counted, rows}
 
 -- a storey on which the call refuses nothing
-pub record Sound (rules : Rules) (k : ℕ) (f : StoreyMembers) : Type 0 where
+pub record Sound (k : ℕ) (f : StoreyMembers) : Type 0 where
   pub known : knowledge k ≡ true
   pub count : f .storey .count ≡ length (f .members)
   pub storey : storeyFault (f .storey) ≡ 0
   pub members : memberRowsFault (f .members) ≡ 0
-  pub shear : shearFault (overShear rules k (meetsWallShare (f .storey .shear) (f .members)) (f .members)) ≡ 0
 
 pub level-positive : (k : ℕ) → knowledge k ≡ true → 0 < k
 level-positive k e = go (eqb k 90) (eqb k 100) refl refl e
@@ -45,21 +46,19 @@ level-positive k e = go (eqb k 90) (eqb k 100) refl refl e
     go false true f g h = omega (arith, eqb-true k 100 g)
     go false false f g h = absurd (never h)
 
-module _ (rules : Rules) (h : Header) (ss : List Storey) (ms : List Member) (none : buildingFault rules h ss ms ≡ 0) where
-  sound-at : (i : ℕ) → i < length ss → Sound rules (h .knowledge) (record { storey = storeyIn ss i; members = membersOf ss ms i })
-  unfolding shearFaultAt
+module _ (h : Header) (ss : List Storey) (ms : List Member) (none : recordsFault h ss ms ≡ 0) where
+  sound-at : (i : ℕ) → i < length ss → Sound (h .knowledge) (record { storey = storeyIn ss i; members = membersOf ss ms i })
   sound-at i l =
       record {
-        known = known-level rules h ss ms none;
-        count = members-counted ss ms i (total-counted rules h ss ms none);
-        storey = one (rows rules h ss ms none i l);
-        members = one (rest (rest (rows rules h ss ms none i l)));
-        shear = first-clear (shearFaultAt rules (h .knowledge) ss ms) (length ss) (one (rest (rest (rest (checks rules h ss ms none))))) i l;
+        known = known-level h ss ms none;
+        count = members-counted ss ms i (total-counted h ss ms none);
+        storey = one (rows h ss ms none i l);
+        members = one (rest (rest (rows h ss ms none i l)));
       }
 
-  verdict-at : (place : ℕ) → buildingRiskyIn (buildingAnswerBy rules h ss ms place) ≡ buildingRisky rules h ss ms
+  verdict-at : (rules : Rules) (place : ℕ) → buildingRiskyIn (buildingAnswerBy rules h ss ms place) ≡ buildingRisky rules h ss ms
   unfolding buildingAnswerBy buildingFinding
-  verdict-at place = rw (eq-eqb _ _ none)
+  verdict-at rules place = rw (eq-eqb _ _ none)
 
 -- a sound storey has members, and they are good records
 storey-members : (s : Storey) → storeyFault s ≡ 0 → 1 ≤ s .count
@@ -68,7 +67,7 @@ storey-members s e =
     let c = every-at (inRange S (storeyValues s)) 3 2 (clear (everyBelow (inRange S (storeyValues s)) 3) 0 3 e (omega arith) .0) (omega arith) in
     leb-true 1 (s .count) (and-left _ _ c)
 
-module _ (rules : Rules) (k : ℕ) (f : StoreyMembers) (sound : Sound rules k f) where
+module _ (k : ℕ) (f : StoreyMembers) (sound : Sound k f) where
   pub has-members : 0 < length (f .members)
   has-members = omega (arith, sound .count, storey-members (f .storey) (sound .storey))
 
@@ -80,20 +79,20 @@ module _ (rules : Rules) (k : ℕ) (f : StoreyMembers) (sound : Sound rules k f)
   good-members = all-rows (λ m. memberFault m ≡ 0) noMember (f .members) (λ j l. one (row j l))
 
   -- so the calls on it and on its members answer their findings
-  call-clear : storeyCallFault rules k (f .storey) (f .members) ≡ 0
+  call-clear : storeyCallFault k (f .storey) (f .members) ≡ 0
   unfolding storeyCallFault
   call-clear =
       let count : countFault (f .storey .count) (length (f .members)) ≡ 0 = rw (eq-eqb _ _ (sound .count)) in
       let known : knowledgeFault k ≡ 0 = rw (sound .known) in
-      in-order-none (also count (also known (also (sound .storey) (also (sound .members) (also (sound .shear) end)))))
+      in-order-none (also count (also known (also (sound .storey) (also (sound .members) end))))
 
-  pub risky-found : riskyIn (storeyAnswerBy rules k (f .storey) (f .members)) ≡ storeyRisky rules k (f .storey .shear) (f .members)
+  pub risky-found : (rules : Rules) → riskyIn (storeyAnswerBy rules k (f .storey) (f .members)) ≡ storeyRisky rules k (f .storey .shear) (f .members)
   unfolding storeyAnswerBy storeyFinding
-  risky-found = rw (eq-eqb _ _ call-clear)
+  risky-found rules = rw (eq-eqb _ _ call-clear)
 
-  pub over-found : (met : Bool) (m : Member) → memberFault m ≡ 0 → overIn (answerBy (rules .limits) k met m) ≡ over rules k met m
+  pub over-found : (rules : Rules) (met : Bool) (m : Member) → memberFault m ≡ 0 → overIn (answerBy (rules .limits) k met m) ≡ over rules k met m
   unfolding answerBy
-  over-found met m e = rw (sound .known, eq-eqb _ _ e)
+  over-found rules met m e = rw (sound .known, eq-eqb _ _ e)
 
 -- an accepted survey
 clear-by : (t : Bool) (fault : ℕ) (f : BuildingFinding) → eqb fault 0 ≡ t → returnedBuilding (pick t (Judged f) (Refused fault)) .refusal ≡ 0 → fault ≡ 0
@@ -101,18 +100,18 @@ clear-by true fault f e h = eqb-true fault 0 e
 clear-by false fault f e h = h
 
 module _ (rules : Rules) (a : Survey) (r : BuildingAnswer) (acc : Accepted rules a r) where
-  pub building-clear : buildingFault rules (a .header) (a .storeys) (a .members) ≡ 0
+  pub building-clear : recordsFault (a .header) (a .storeys) (a .members) ≡ 0
   unfolding buildingAnswerBy
   building-clear =
       let e = ap (λ (x : Returned). x .refusal) (acc .answers .same) in
-      clear-by (eqb (buildingFault rules (a .header) (a .storeys) (a .members)) 0) _ _ refl (sym e ∙ acc .no-refusal)
+      clear-by (eqb (recordsFault (a .header) (a .storeys) (a .members)) 0) _ _ refl (sym e ∙ acc .no-refusal)
 
   pub verdict-found : buildingRiskyIn r ≡ buildingRisky rules (a .header) (a .storeys) (a .members)
-  verdict-found = ap buildingRiskyIn (answer-same rules (a .header) (a .storeys) (a .members) r (acc .answers)) ∙ verdict-at rules (a .header) (a .storeys) (a .members) building-clear (placeIn r)
+  verdict-found = ap buildingRiskyIn (answer-same rules (a .header) (a .storeys) (a .members) r (acc .answers)) ∙ verdict-at (a .header) (a .storeys) (a .members) building-clear rules (placeIn r)
 
   pub level-known : knowledge (knowledgeOf a) ≡ true
-  level-known = known-level rules (a .header) (a .storeys) (a .members) building-clear
+  level-known = known-level (a .header) (a .storeys) (a .members) building-clear
 
-  pub sound-storeys : All (Sound rules (knowledgeOf a)) (storeysMembers a)
+  pub sound-storeys : All (Sound (knowledgeOf a)) (storeysMembers a)
   sound-storeys =
-      all-listed (Sound rules (knowledgeOf a)) (storeyMembersAt a) (length (a .storeys)) (sound-at rules (a .header) (a .storeys) (a .members) building-clear)
+      all-listed (Sound (knowledgeOf a)) (storeyMembersAt a) (length (a .storeys)) (sound-at (a .header) (a .storeys) (a .members) building-clear)

@@ -24,12 +24,12 @@ use Rattle.comparison.proofs.Storeys.{Orderly, rules-ordered, Known, ov
 use Rattle.comparison.proofs.Accepted.{Sound, level-positive, has-members, good-members, risky-found, over-found, verdict-found, level-known, sound-storeys}
 
 -- two storeys that are partners, judged with the levels j and k
-module _ (rules : Rules) (good : Orderly rules) (j k : ℕ) (same : j ≡ k) (pos : 0 < j) (f g : StoreyMembers) (ms : MemberPairs (f .members) (g .members)) (sf : Sound rules j f) (sg : Sound rules k g) (worse : AtLeastAsSevereStorey j f g ms) where
+module _ (rules : Rules) (good : Orderly rules) (j k : ℕ) (same : j ≡ k) (pos : 0 < j) (f g : StoreyMembers) (ms : MemberPairs (f .members) (g .members)) (sf : Sound j f) (sg : Sound k g) (worse : AtLeastAsSevereStorey j f g ms) where
   shear-same : f .storey .shear ≡ g .storey .shear
   shear-same = omega (arith, worse .shear)
 
   faultless : EveryPair (λ m n u. (memberFault m ≡ 0) × (memberFault n ≡ 0)) ms
-  faultless = of-all (λ m. memberFault m ≡ 0) (λ m. memberFault m ≡ 0) ms (good-members rules j f sf) (good-members rules k g sg)
+  faultless = of-all (λ m. memberFault m ≡ 0) (λ m. memberFault m ≡ 0) ms (good-members j f sf) (good-members k g sg)
 
   known : EveryPair (Known j) ms
   known =
@@ -53,16 +53,16 @@ module _ (rules : Rules) (good : Orderly rules) (j k : ℕ) (same : j ≡ k) (po
       each
       (λ m n u. ((memberFault m ≡ 0) × (memberFault n ≡ 0)) × (over rules j metF m ≡ true → over rules k metG n ≡ true))
       (λ m n u. overIn (answerBy (rules .limits) j metF m) ≡ true → overIn (answerBy (rules .limits) k metG n) ≡ true)
-      (λ m n u h e. over-found rules k g sg metG n (h .0 .1) ∙ h .1 (sym (over-found rules j f sf metF m (h .0 .0)) ∙ e)) ms
+      (λ m n u h e. over-found k g sg rules metG n (h .0 .1) ∙ h .1 (sym (over-found j f sf rules metF m (h .0 .0)) ∙ e)) ms
       (both (λ m n u. (memberFault m ≡ 0) × (memberFault n ≡ 0)) (λ m n u. over rules j metF m ≡ true → over rules k metG n ≡ true) ms faultless overs)
 
   risky-kept : storeyRisky rules j (f .storey .shear) (f .members) ≡ true → storeyRisky rules k (g .storey .shear) (g .members) ≡ true
   risky-kept e =
       at-equals (λ l w. storeyRisky rules l w (g .members) ≡ true) same shear-same
-      (risky-carried rules good j (f .storey .shear) pos ms known (has-members rules j f sf) e)
+      (risky-carried rules good j (f .storey .shear) pos ms known (has-members j f sf) e)
 
   storey-carried : riskyIn (storeyAnswerBy rules j (f .storey) (f .members)) ≡ true → riskyIn (storeyAnswerBy rules k (g .storey) (g .members)) ≡ true
-  storey-carried e = risky-found rules k g sg ∙ risky-kept (sym (risky-found rules j f sf) ∙ e)
+  storey-carried e = risky-found k g sg rules ∙ risky-kept (sym (risky-found j f sf rules) ∙ e)
 
 -- some storey of a building is Risky: one in the list of its storeys with their members is
 some-after : {A : Type 0} (p : A → Bool) (xs : List A) (x : A) → anyOf p (xs ++ (x ∷ [])) ≡ (anyOf p xs || p x)
@@ -96,12 +96,12 @@ module _ (rules : Rules) (good : Orderly rules) (a b : Survey) (r q : BuildingAn
   positive = level-positive (knowledgeOf a) (level-known rules a r ra)
 
   abbrev Facts : (f g : StoreyMembers) → MemberPairs (f .members) (g .members) → Type 0
-  Facts f g ms = (Sound rules (knowledgeOf a) f × Sound rules (knowledgeOf b) g) × AtLeastAsSevereStorey (knowledgeOf a) f g ms
+  Facts f g ms = (Sound (knowledgeOf a) f × Sound (knowledgeOf b) g) × AtLeastAsSevereStorey (knowledgeOf a) f g ms
 
   facts : EveryPair Facts pairs
   facts =
-      both (λ f g ms. Sound rules (knowledgeOf a) f × Sound rules (knowledgeOf b) g) (λ f g ms. AtLeastAsSevereStorey (knowledgeOf a) f g ms) pairs
-      (of-all (Sound rules (knowledgeOf a)) (Sound rules (knowledgeOf b)) pairs (sound-storeys rules a r ra) (sound-storeys rules b q rb)) (worse .storeys)
+      both (λ f g ms. Sound (knowledgeOf a) f × Sound (knowledgeOf b) g) (λ f g ms. AtLeastAsSevereStorey (knowledgeOf a) f g ms) pairs
+      (of-all (Sound (knowledgeOf a)) (Sound (knowledgeOf b)) pairs (sound-storeys rules a r ra) (sound-storeys rules b q rb)) (worse .storeys)
 
   verdicts : EveryPair (λ f g ms. verdict rules (knowledgeOf a) f ≡ true → verdict rules (knowledgeOf b) g ≡ true) pairs
   verdicts =

@@ -1,3 +1,4 @@
 pub mod Says
 pub mod Outcomes
 pub mod Room
+pub mod Accepted

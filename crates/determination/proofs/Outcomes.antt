@@ -20,7 +20,8 @@ use Rattle.report.proofs.Returned.{report-answer-is}
 use Rattle.records.specs.First.{everyBelow}
 use Rattle.records.specs.Records.{headerFault}
 use Rattle.records.specs.Totals.{total}
-use Rattle.storeys.specs.Building.{buildingFault, countsFault}
+use Rattle.storeys.specs.Building.{}
+use Rattle.records.specs.Rows.{countsFault, recordsFault}
 use Rattle.report.proofs.Called.{sheet-fits}
 use Rattle.determination.specs.Answers.{blank, headerTold, membersTold, lengthBy, bytesBy, lengthTold, bytesTold}
 use Rattle.determination.specs.Determination.{inputMost, storeyRows, memberRows, text, printed}
@@ -69,7 +70,7 @@ taken-length n xs h = simp length-take (omega (arith, h))
 
 -- the report call writes nothing of a blank header
 blank-refused : (room : ℕ) → eqb (reportFault blank [] [] room) 0 ≡ false
-unfolding reportFault buildingFault countsFault headerFault everyBelow total
+unfolding reportFault recordsFault countsFault headerFault everyBelow total
 blank-refused room = refl
 
 kept-of-blank : (out : List ℕ) → bufferAfter blank [] [] out ≡ out

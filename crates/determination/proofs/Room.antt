@@ -17,11 +17,12 @@ use Rattle.reading.specs.Answer.{told, storeysTold}
 use Rattle.reading.proofs.Numbers.{length-listed, length-members}
 use Rattle.reading.proofs.Accepted.{lies}
 use Rattle.storeys.specs.Storey.{publishedRules}
-use Rattle.storeys.specs.Building.{buildingFault}
+use Rattle.storeys.specs.Building.{}
 use Rattle.report.specs.Sheet.{sheet, reportFault}
 use Rattle.report.proofs.Called.{length-sheet}
 use Rattle.determination.specs.Determination.{storeyRows, memberRows}
 use Rattle.determination.proofs.Outcomes.{storeysIn, membersIn}
+use Rattle.records.specs.Rows.{recordsFault}
 
 abbrev Held : ℕ → ℕ → Outcome → Type 0
 Held srows mrows o = (length (storeysIn o) ≤ srows) × (length (membersIn o) ≤ mrows)
@@ -41,14 +42,14 @@ module _ (s : List ℕ) (srows mrows : ℕ) where
   held = held-by (eqb (surveyFault s srows mrows .number) 0) refl
 
 module _ (h : Header) (ss : List Storey) (ms : List Member) (room : ℕ) (few : Held storeyRows memberRows (accepted h ss ms)) (enough : 28_286 ≤ room) where
-  by-building : (t : Bool) → eqb (buildingFault publishedRules h ss ms) 0 ≡ t → reportFault h ss ms room ≡ buildingFault publishedRules h ss ms
+  by-building : (t : Bool) → eqb (recordsFault h ss ms) 0 ≡ t → reportFault h ss ms room ≡ recordsFault h ss ms
   unfolding reportFault
   by-building true e =
-      let none = eqb-true (buildingFault publishedRules h ss ms) 0 e in
+      let none = eqb-true (recordsFault h ss ms) 0 e in
       let fits : length (sheet h ss ms) ≤ room = omega (arith, length-sheet h ss ms none, few) in
       rw (none, le-leb (length (sheet h ss ms)) room fits)
   by-building false e = rw e
 
 -- a file that is read has no refusal 9
-pub never-nine : (s : List ℕ) (h : Header) (ss : List Storey) (ms : List Member) (room : ℕ) → survey s storeyRows memberRows ≡ accepted h ss ms → 28_286 ≤ room → reportFault h ss ms room ≡ buildingFault publishedRules h ss ms
-never-nine s h ss ms room e enough = by-building h ss ms room (rw e at (held s storeyRows memberRows)) enough (eqb (buildingFault publishedRules h ss ms) 0) refl
+pub never-nine : (s : List ℕ) (h : Header) (ss : List Storey) (ms : List Member) (room : ℕ) → survey s storeyRows memberRows ≡ accepted h ss ms → 28_286 ≤ room → reportFault h ss ms room ≡ recordsFault h ss ms
+never-nine s h ss ms room e enough = by-building h ss ms room (rw e at (held s storeyRows memberRows)) enough (eqb (recordsFault h ss ms) 0) refl

@@ -96,12 +96,12 @@ module _ (s : List ℕ) (srows mrows : ℕ) where
       (omega (arith, all-most n)))
       (omega (arith, at-most 1 (headerLineFault s)))
 
-  refusal-by : (t : Bool) → eqb (surveyFault s srows mrows .number) 0 ≡ t → readingReturned (told (survey s srows mrows)) .refusal ≤ 10
+  refusal-by : (t : Bool) → eqb (surveyFault s srows mrows .number) 0 ≡ t → readingReturned (told (survey s srows mrows)) .refusal ≤ 9
   unfolding survey
   refusal-by true e = rw e (omega arith)
   refusal-by false e = rw e (omega (arith, Numbered.fault-most s srows mrows))
 
-  pub refusal-most : readingReturned (told (survey s srows mrows)) .refusal ≤ 10
+  pub refusal-most : readingReturned (told (survey s srows mrows)) .refusal ≤ 9
   refusal-most = refusal-by (eqb (surveyFault s srows mrows .number) 0) refl
 
   told-most : (t : Bool) → eqb (surveyFault s srows mrows .number) 0 ≡ t → readingReturned (told (survey s srows mrows)) .line ≤ 65_536

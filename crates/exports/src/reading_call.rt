@@ -18,7 +18,7 @@ const READING_COUNT: usize = 8;
 
 // Puts the values of an accepted file: the header's six fields, the numbers of rows filled. Gives refusal and line.
 fn put_reading(out: &mut [u64], r: Reading) -> u64
-    requires { ⌜ (readingReturned (tells (r .answer)) .refusal ≤ 10) × (readingReturned (tells (r .answer)) .line ≤ 65_536) ⌝ }
+    requires { ⌜ (readingReturned (tells (r .answer)) .refusal ≤ 9) × (readingReturned (tells (r .answer)) .line ≤ 65_536) ⌝ }
     ensures { λ n. ⌜ n ≡ packed (readingReturned (tells (r .answer))) ⌝ }
     ensures { λ _. ⌜ now (out .exit) ≡ atFront (readingReturned (tells (r .answer)) .values) (now (out .entry)) ⌝ }
 {

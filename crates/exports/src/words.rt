@@ -10,7 +10,7 @@ pub(crate) const SHORT: u64 = 255;
 
 // A refusal and its line in one number. On records the line is 0, and the refusal stands for both.
 pub(crate) fn pack(refusal: u64, line: u64) -> u64
-    requires { ⌜ (refusal ≤ 10) × (line ≤ 65_536) ⌝ }
+    requires { ⌜ (refusal ≤ 9) × (line ≤ 65_536) ⌝ }
     ensures { λ r. ⌜ r ≡ packing refusal line ⌝ }
 {
     refusal + 256 * line

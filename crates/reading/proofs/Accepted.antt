@@ -205,6 +205,9 @@ no-trail true l e = let z : ⊥ = omega (arith, e) in absurd z
 no-trail false l e = refl
 
 module _ (s : List ℕ) (srows mrows : ℕ) (z : surveyFault s srows mrows .number ≡ 0) where
+  pub header-line : headerLineFault s ≡ 0
+  header-line = header-clear s srows mrows z
+
   pub header-clean : Clean B s 0
   unfolding headerLineFault
   header-clean =
@@ -213,18 +216,26 @@ module _ (s : List ℕ) (srows mrows : ℕ) (z : surveyFault s srows mrows .numb
       record { form = test-clear (shaped B (drop 0 s)) 1 (omega arith) (pick-clear (shape B s 0) _ e); written = pick-clear (fieldsFault B s 0) _ l }
 
   module _ (i : ℕ) (h : i < headerAt s 0 .count) where
+    pub storey-line : storeyLineFault s srows i ≡ 0
+    unfolding Clear
+    storey-line = line-clear (lineNumber i (membersBefore s i)) (storeyLineFault s srows i) (clear-both s srows mrows i (all-clear s srows mrows z i h) .0)
+
+    pub member-line : (j : ℕ) → j < storey s i .count → memberLineFault s mrows i j ≡ 0
+    unfolding membersFault Clear
+    member-line j l =
+        line-clear (lineNumber (i + 1) (membersBefore s i + j)) (memberLineFault s mrows i j)
+        (first-clear noFault (λ f. f .number) _ (storey s i .count) j (clear-both s srows mrows i (all-clear s srows mrows z i h) .1) l)
+
     pub storey-clean : Clean S s (lineStart i (membersBefore s i))
-    unfolding storeyLineFault Clear
+    unfolding storeyLineFault
     storey-clean =
-        let e = line-clear (lineNumber i (membersBefore s i)) (storeyLineFault s srows i) (clear-both s srows mrows i (all-clear s srows mrows z i h) .0) in
+        let e = storey-line in
         line-clean S s (lineStart i (membersBefore s i)) (unheld i srows) (storeyFault (storey s i)) (repeated (λ k. storey s k .number) i) e
 
     pub member-clean : (j : ℕ) → j < storey s i .count → Clean M s (memberStart s i j)
-    unfolding memberLineFault membersFault Clear
+    unfolding memberLineFault
     member-clean j l =
-        let e = first-clear noFault (λ f. f .number) _ (storey s i .count) j (clear-both s srows mrows i (all-clear s srows mrows z i h) .1) l in
-        line-clean M s (memberStart s i j) (unheld (membersBefore s i + j) mrows) (memberFault (member s i j)) (repeated (λ k. member s i k .number) j)
-        (line-clear (lineNumber (i + 1) (membersBefore s i + j)) (memberLineFault s mrows i j) e)
+        line-clean M s (memberStart s i j) (unheld (membersBefore s i + j) mrows) (memberFault (member s i j)) (repeated (λ k. member s i k .number) j) (member-line j l)
 
   pub nothing-after : length s ≤ lineStart (headerAt s 0 .count) (membersBefore s (headerAt s 0 .count))
   unfolding surveyFault

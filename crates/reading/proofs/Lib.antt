@@ -10,3 +10,4 @@ pub mod Reread
 pub mod Says
 pub mod Structs
 pub mod Numbered
+pub mod Passed

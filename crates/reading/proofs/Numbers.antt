@@ -1,14 +1,12 @@
 -- A good header announces ten storeys at most; how many records a file has; and what is told of it.
 use Prim.Native.Nat.{ℕ, zero, suc, _≤_}
 use native.Mathlib.Omega.{arith}
-use mathlib.Core.Bool.{_&&_}
 use mathlib.Core.List.{List, [], _∷_}
 use mathlib.Core.Path.{_≡_, refl, sym, _∙_}
-use lib.Dec.{leb}
 use lib.ListN.{length, length-append}
-use borrow.Author.Tests.{leb-true, eq-eqb, ne-eqb}
-use Rattle.records.specs.First.{everyBelow, inOrder}
-use Rattle.records.specs.Records.{inRange, headerValues, headerFault}
+use borrow.Author.Tests.{eq-eqb, ne-eqb}
+use Rattle.records.specs.First.{inOrder}
+use Rattle.records.specs.Records.{headerFault}
 use Rattle.format.specs.Lines.{fieldsFault, headerAt}
 use Rattle.reading.specs.Survey.{membersBefore, storey, member, shape, headerLineFault, surveyFault, firstMembers, survey}
 use Rattle.records.specs.Totals.{listed}
@@ -17,24 +15,13 @@ use Rattle.reading.specs.Answer.{told, filled, refusal}
 use Rattle.records.specs.declared.Header.{Header}
 use Rattle.records.specs.declared.Tag.the-variants.{B}
 use Rattle.reading.specs.declared.survey.Checked.{Checked}
-use Rattle.records.proofs.Below.{and-right, every-at}
 use Rattle.records.proofs.Firsts.{in-order-last, pick-both}
-use Rattle.records.proofs.Validity.{clear}
-
--- a good header announces at most ten storeys
-ten : (h : Header) → headerFault h ≡ 0 → h .count ≤ 10
-unfolding headerFault
-ten h e =
-    let o = clear (everyBelow (inRange B (headerValues h)) 6) _ 3 e (omega arith) in
-    let t = clear (leb (h .height) 30_000 && leb (h .storeys) 10) 0 7 (o .1) (omega arith) .0 in
-    let a = leb-true (h .storeys) 10 (and-right (leb (h .height) 30_000) _ t) in
-    let b = leb-true (h .count) (h .storeys) (and-right (leb 1 (h .count)) (leb (h .count) (h .storeys)) (every-at (inRange B (headerValues h)) 6 5 (o .0) (omega arith))) in
-    omega arith
+use Rattle.records.proofs.Validity as Validity
 
 pub ten-storeys : (s : List ℕ) → headerLineFault s ≡ 0 → headerAt s 0 .count ≤ 10
 unfolding headerLineFault
 ten-storeys s e =
-    ten (headerAt s 0)
+    Validity.ten-storeys (headerAt s 0)
     (pick-both (inOrder (shape B s 0 ∷ fieldsFault B s 0 ∷ [])) (headerFault (headerAt s 0))
     (sym (in-order-last (shape B s 0 ∷ fieldsFault B s 0 ∷ []) (headerFault (headerAt s 0))) ∙ e))
 

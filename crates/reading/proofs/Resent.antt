@@ -55,7 +55,7 @@ module _ (s : List ℕ) (srows mrows : ℕ) (z : surveyFault s srows mrows .numb
       members-text i c h (omega arith)
       ∙ rw (member-text s (memberStart s i c) (member-clean s srows mrows z i h c l), p, members-more (listed (member s i) c) (member s i c ∷ [])) (simp (append-assoc, append-nil))
 
-  total-all : (i : ℕ) → memberCount (firstStoreys s i) ≡ membersBefore s i
+  pub total-all : (i : ℕ) → memberCount (firstStoreys s i) ≡ membersBefore s i
   unfolding listed membersBefore total
   total-all zero = refl
   total-all (suc i) = total-more (firstStoreys s i) (storey s i) ∙ rw (total-all i)
@@ -82,7 +82,7 @@ module _ (s : List ℕ) (srows mrows : ℕ) (z : surveyFault s srows mrows .numb
       header-text s 0 (header-clean s srows mrows z)
       ∙ rw (storeys-text (headerAt s 0 .count) (le-refl _), drop-of-length-le s (nothing-after s srows mrows z)) (simp append-nil)
 
-of-accepted : (t : Bool) (h k : Header) (ss us : List Storey) (ms ns : List Member) (r l : ℕ) → pick t (accepted h ss ms) (refused r l) ≡ accepted k us ns → (t ≡ true) × (h ≡ k) × (ss ≡ us) × (ms ≡ ns)
+pub of-accepted : (t : Bool) (h k : Header) (ss us : List Storey) (ms ns : List Member) (r l : ℕ) → pick t (accepted h ss ms) (refused r l) ≡ accepted k us ns → (t ≡ true) × (h ≡ k) × (ss ≡ us) × (ms ≡ ns)
 of-accepted true h k ss us ms ns r l e = (refl, cc, cc, cc)
 of-accepted false h k ss us ms ns r l e = let z : _≡_ {A = ℕ} 0 1 = cc in absurd (omega arith)
 

@@ -3,3 +3,4 @@ pub mod Filling
 pub mod Checks
 pub mod Answer
 pub mod Writing
+pub mod Passed

@@ -5,7 +5,7 @@ use native.Mathlib.Nat.{not-suc-le-zero, eq-or-lt-of-le, le-of-suc-le-suc}
 use native.Mathlib.Numerals.{add-one}
 use mathlib.Core.Bool.{Bool, true, false}
 use mathlib.Core.Logic.{⊎-elim}
-use mathlib.Core.Path.{_≡_, refl}
+use mathlib.Core.Path.{_≡_, refl, sym, _∙_}
 use lib.Dec.{eqb, eqb·suc-zero}
 use borrow.Author.Tests.{eq-eqb, ne-eqb, eqb-true, eqb-false}
 use mathlib.Core.List.{List, [], _∷_, _++_}
@@ -77,3 +77,21 @@ pub first-zero : {A : Type 0} (nil : A) (number : A → ℕ) (f : ℕ → A) (n 
 unfolding first
 first-zero nil number f zero h g = h
 first-zero nil number f (suc n) h g = rw (eq-eqb _ _ (first-zero nil number f n h (λ j l. g j (omega arith)))) (g n (omega arith))
+
+-- the first of two refusals
+pub two-first : (a b : ℕ) → (a ≡ 0 → ⊥) → a ≡ inOrder (a ∷ b ∷ [])
+two-first a b h = sym (pick-other a (inOrder (b ∷ [])) h)
+
+pub two-second : (a b : ℕ) → a ≡ 0 → b ≡ inOrder (a ∷ b ∷ [])
+two-second a b h = sym (pick-zero a (inOrder (b ∷ [])) h ∙ last-of b)
+
+-- ---- refusals in order
+pub in-order-both : (xs ys : List ℕ) → inOrder (xs ++ ys) ≡ pick (eqb (inOrder xs) 0) (inOrder ys) (inOrder xs)
+in-order-both [] ys = refl
+in-order-both (a ∷ xs) ys = one-more (eqb a 0) a (inOrder ys) (inOrder xs) (inOrder (xs ++ ys)) refl (in-order-both xs ys)
+
+pub nested : (t : Bool) (a b : ℕ) (later : List ℕ) → eqb a 0 ≡ t → inOrder (pick t (inOrder (b ∷ [])) a ∷ later) ≡ pick t (inOrder (b ∷ later)) a
+nested true a b later e = rw (last-of b)
+nested false a b later e = rw e
+
+-- ---- the answer

@@ -93,3 +93,13 @@ member-ranged m e = clear (everyBelow (inRange M (memberValues m)) 26) _ 3 e (om
 pub count-most : (st : Storey) → storeyFault st ≡ 0 → st .count ≤ 200
 count-most st e =
     leb-true (st .count) 200 (and-right (leb 1 (st .count)) (leb (st .count) 200) (every-at (inRange S (storeyValues st)) 3 2 (storey-ranged st e) (omega arith)))
+
+-- a good header announces at most ten storeys
+pub ten-storeys : (h : Header) → headerFault h ≡ 0 → h .count ≤ 10
+unfolding headerFault
+ten-storeys h e =
+    let t = clear (everyBelow (inRange B (headerValues h)) 6) (pick (leb (h .height) 30_000 && leb (h .storeys) 10) 0 7) 3 e (omega arith) in
+    let u = clear (leb (h .height) 30_000 && leb (h .storeys) 10) 0 7 (t .1) (omega arith) .0 in
+    let a = leb-true (h .storeys) 10 (and-right (leb (h .height) 30_000) (leb (h .storeys) 10) u) in
+    let b = leb-true (h .count) (h .storeys) (and-right (leb 1 (h .count)) (leb (h .count) (h .storeys)) (every-at (inRange B (headerValues h)) 6 5 (t .0) (omega arith))) in
+    omega (arith, a, b)

@@ -3,3 +3,5 @@ pub mod Totals
 pub mod Records
 pub mod Valid
 pub mod Blank
+pub mod Rows
+pub mod RowChecks

@@ -13,12 +13,13 @@ use Rattle.records.specs.declared.Member.{Member}
 use Rattle.records.proofs.Firsts.{last-of}
 use Rattle.records.proofs.Validity.{clear}
 use Rattle.storeys.specs.Storey.{publishedRules}
-use Rattle.storeys.specs.Building.{storeyIn, membersBefore, membersOf, tilted, buildingRisky, buildingFault, buildingFinding, buildingAnswerBy, placeIn, Answers}
+use Rattle.records.specs.Rows.{storeyIn, membersBefore, membersOf, recordsFault}
+use Rattle.storeys.specs.Building.{tilted, buildingRisky, buildingFinding, buildingAnswerBy, placeIn, Answers}
 use Rattle.storeys.specs.declared.BuildingFinding.{BuildingFinding}
 use Rattle.storeys.specs.declared.BuildingAnswer.{BuildingAnswer}
 use Rattle.storeys.specs.declared.BuildingAnswer.the-variants as building-answer
 use Rattle.storeys.proofs.Returned.{answer-same}
-use Rattle.storeys.proofs.Refusals.{None, one, rest, in-order-clear}
+use Rattle.records.proofs.Refusals.{None, one, rest, in-order-clear}
 use Rattle.report.specs.declared.ReportAnswer.{ReportAnswer}
 use Rattle.report.specs.declared.ReportAnswer.the-variants.{Written, Refused}
 use Rattle.columns.specs.Bytes.{stamped}
@@ -27,10 +28,10 @@ use Rattle.report.specs.Printing.{lineOf, sizeOf, Few, faultBy}
 use Rattle.columns.proofs.Stamps.{stamped-both, stamped-front}
 use Rattle.report.proofs.Rows.{length-building-line, length-storey-lines}
 use Rattle.report.proofs.Survey.{storeys-most, members-most, before-end, part-length}
-use Rattle.storeys.proofs.BuildingRows.{none-before}
+use Rattle.records.proofs.RowLoops.{none-before}
 
 -- ---- the sheet's length: 86 bytes for each member, 74 for each storey, 26 for the building
-module _ (h : Header) (ss : List Storey) (ms : List Member) (none : buildingFault publishedRules h ss ms ≡ 0) where
+module _ (h : Header) (ss : List Storey) (ms : List Member) (none : recordsFault h ss ms ≡ 0) where
   length-storeys : (k i n : ℕ) → length (storeysLines k ss ms i n) + 86 * membersBefore ss i ≡ 86 * membersBefore ss (i + n) + 74 * n
   unfolding storeysLines membersBefore
   length-storeys k i zero = let e : i + 0 ≡ i = omega arith in rw e (omega arith)
@@ -73,34 +74,34 @@ line-judged : (b : BuildingAnswer) (f : BuildingFinding) → b ≡ building-answ
 line-judged b f e = rw e
 
 module _ (h : Header) (ss : List Storey) (ms : List Member) (b : BuildingAnswer) (says : Answers publishedRules h ss ms b) where
-  judged : eqb (buildingFault publishedRules h ss ms) 0 ≡ true → b ≡ building-answer.Judged (buildingFinding publishedRules h ss ms (placeIn b))
+  judged : eqb (recordsFault h ss ms) 0 ≡ true → b ≡ building-answer.Judged (buildingFinding publishedRules h ss ms (placeIn b))
   unfolding buildingAnswerBy
   judged e = answer-same publishedRules h ss ms b says ∙ rw e
 
-  refused-by : eqb (buildingFault publishedRules h ss ms) 0 ≡ false → b ≡ building-answer.Refused (buildingFault publishedRules h ss ms)
+  refused-by : eqb (recordsFault h ss ms) 0 ≡ false → b ≡ building-answer.Refused (recordsFault h ss ms)
   unfolding buildingAnswerBy
   refused-by e = answer-same publishedRules h ss ms b says ∙ rw e
 
-  few-by : (t : Bool) → eqb (buildingFault publishedRules h ss ms) 0 ≡ t → Few b (length ss) (length ms)
+  few-by : (t : Bool) → eqb (recordsFault h ss ms) 0 ≡ t → Few b (length ss) (length ms)
   few-by true e =
-      let none = eqb-true (buildingFault publishedRules h ss ms) 0 e in
+      let none = eqb-true (recordsFault h ss ms) 0 e in
       few-judged b _ (length ss) (length ms) (judged e) (storeys-most h ss ms none, members-most h ss ms none)
   few-by false e = few-refused b _ (length ss) (length ms) (refused-by e)
 
   pub few : Few b (length ss) (length ms)
-  few = few-by (eqb (buildingFault publishedRules h ss ms) 0) refl
+  few = few-by (eqb (recordsFault h ss ms) 0) refl
 
-  fault-by : (t : Bool) (room : ℕ) → eqb (buildingFault publishedRules h ss ms) 0 ≡ t → faultBy b (length ss) (length ms) room ≡ reportFault h ss ms room
+  fault-by : (t : Bool) (room : ℕ) → eqb (recordsFault h ss ms) 0 ≡ t → faultBy b (length ss) (length ms) room ≡ reportFault h ss ms room
   unfolding reportFault
   fault-by true room e =
       fault-judged b _ (length ss) (length ms) room (judged e)
-      ∙ rw (e, length-sheet h ss ms (eqb-true (buildingFault publishedRules h ss ms) 0 e)) (sym (last-of (lengthFault (sizeOf (length ss) (length ms)) room)))
+      ∙ rw (e, length-sheet h ss ms (eqb-true (recordsFault h ss ms) 0 e)) (sym (last-of (lengthFault (sizeOf (length ss) (length ms)) room)))
   fault-by false room e = fault-refused b _ (length ss) (length ms) room (refused-by e) ∙ rw e
 
   pub fault-is : (z room : ℕ) → z ≡ faultBy b (length ss) (length ms) room → z ≡ reportFault h ss ms room
-  fault-is z room e = e ∙ fault-by (eqb (buildingFault publishedRules h ss ms) 0) room refl
+  fault-is z room e = e ∙ fault-by (eqb (recordsFault h ss ms) 0) room refl
 
-  pub line-is : buildingFault publishedRules h ss ms ≡ 0 → lineOf b ≡ buildingLine (tilted h) (buildingRisky publishedRules h ss ms)
+  pub line-is : recordsFault h ss ms ≡ 0 → lineOf b ≡ buildingLine (tilted h) (buildingRisky publishedRules h ss ms)
   unfolding buildingFinding
   line-is none = line-judged b _ (judged (eq-eqb _ _ none))
 
@@ -117,11 +118,11 @@ module _ (h : Header) (ss : List Storey) (ms : List Member) (before : List ℕ) 
 
   -- ---- the sheet
   module _ (zero-fault : z ≡ 0) where
-    none-of-both : None (buildingFault publishedRules h ss ms ∷ lengthFault (length (sheet h ss ms)) (length before) ∷ [])
+    none-of-both : None (recordsFault h ss ms ∷ lengthFault (length (sheet h ss ms)) (length before) ∷ [])
     unfolding reportFault
     none-of-both = in-order-clear _ (sym e ∙ zero-fault)
 
-    pub building-clear : buildingFault publishedRules h ss ms ≡ 0
+    pub building-clear : recordsFault h ss ms ≡ 0
     building-clear = one none-of-both
 
     pub sheet-fits : length (sheet h ss ms) ≤ length before

@@ -17,10 +17,11 @@ use Rattle.members.specs.Finding.{finding, knowledge}
 use Rattle.members.specs.declared.finding.Finding.{Finding}
 use Rattle.storeys.specs.declared.StoreyFinding.{StoreyFinding}
 use Rattle.storeys.specs.declared.StoreyAnswer.{StoreyAnswer}
-use Rattle.storeys.specs.Storey.{publishedRules, meetsWallShare, overShear, storeyFinding, countFault, knowledgeFault, shearFault, memberIn, rowFault, memberRowsFault, storeyCallFault, storeyAnswerBy, storeyAnswer, returnedStorey, storeyReturned}
+use Rattle.storeys.specs.Storey.{publishedRules, meetsWallShare, storeyFinding, knowledgeFault, storeyCallFault, storeyAnswerBy, storeyAnswer, returnedStorey, storeyReturned}
+use Rattle.records.specs.Rows.{countFault, memberIn, rowFault, memberRowsFault}
 use Rattle.records.specs.Blank.{noMember}
 use Rattle.storeys.proofs.Returned.{storey-answer-is}
-use Rattle.storeys.proofs.Refusals.{None, one, rest, in-order-clear, first-clear}
+use Rattle.records.proofs.Refusals.{None, one, rest, in-order-clear, first-clear}
 use Rattle.columns.specs.Bytes.{stamped}
 use Rattle.report.specs.Sheet.{memberColumns, storeyColumns, buildingColumns, memberLine, storeyLine, buildingLine, memberLines, storeyLines}
 use Rattle.report.specs.Printing.{findingIn}
@@ -75,8 +76,8 @@ test-clear : (t : Bool) (r : ℕ) → 0 < r → pick t 0 r ≡ 0 → t ≡ true
 test-clear true r l e = refl
 test-clear false r l e = let y : ⊥ = omega (arith, e) in absurd y
 
-module _ (k : ℕ) (s : Storey) (rows : List Member) (none : storeyCallFault publishedRules k s rows ≡ 0) where
-  clear : None (countFault (s .count) (length rows) ∷ knowledgeFault k ∷ storeyFault s ∷ memberRowsFault rows ∷ shearFault (overShear publishedRules k (meetsWallShare (s .shear) rows) rows) ∷ [])
+module _ (k : ℕ) (s : Storey) (rows : List Member) (none : storeyCallFault k s rows ≡ 0) where
+  clear : None (countFault (s .count) (length rows) ∷ knowledgeFault k ∷ storeyFault s ∷ memberRowsFault rows ∷ [])
   unfolding storeyCallFault
   clear = in-order-clear _ none
 

@@ -14,8 +14,8 @@ use borrow.Kind.ShrSlice.{pShrS}
 use borrow.Kind.MutSlice.{pMutS}
 use borrow.Table.Referent.{rtF, fInt}
 use Rattle.members.specs.Finding.{knowledge}
-use Rattle.storeys.specs.Storey.{publishedRules, memberRowsFault, storeyCallFault}
-use Rattle.storeys.specs.Building.{buildingFault}
+use Rattle.storeys.specs.Storey.{storeyCallFault}
+use Rattle.records.specs.Rows.{memberRowsFault, recordsFault}
 use Rattle.walk.proofs.Fn.{Plain}
 use Rattle.walk.proofs.Slice.{R, taken, made}
 use Rattle.records.proofs.Structs.{header, member, storey}
@@ -42,7 +42,7 @@ put-members = record {
 abbrev pub put-storey-lines : Plain {n = 2} (pMutS bytes 0 tt ∷ pNum w64 ∷ pNum w64 ∷ taken storey ∷ pShrS (R member) 1 tt ∷ []) (rNum w64)
 put-storey-lines = record {
   requires = λ κs a.
-      ((storeyCallFault publishedRules (a .1 .1 .0) (a .1 .1 .1 .0) (a .1 .1 .1 .1 .0 .now) ≡ 0)
+      ((storeyCallFault (a .1 .1 .0) (a .1 .1 .1 .0) (a .1 .1 .1 .1 .0 .now) ≡ 0)
       × (a .1 .0 + (86 * length (a .1 .1 .1 .1 .0 .now) + 74) ≤ length (a .0 .now)))
       ∷ [];
   ensures = λ κs a z e.
@@ -54,7 +54,7 @@ put-storey-lines = record {
 abbrev pub put-storeys : Plain {n = 3} (pMutS bytes 0 tt ∷ taken header ∷ pShrS (R storey) 1 tt ∷ pShrS (R member) 2 tt ∷ []) (rNum w64)
 put-storeys = record {
   requires = λ κs a.
-      ((buildingFault publishedRules (a .1 .0) (a .1 .1 .0 .now) (a .1 .1 .1 .0 .now) ≡ 0)
+      ((recordsFault (a .1 .0) (a .1 .1 .0 .now) (a .1 .1 .1 .0 .now) ≡ 0)
       × (86 * length (a .1 .1 .1 .0 .now) + 74 * length (a .1 .1 .0 .now) ≤ length (a .0 .now)))
       ∷ [];
   ensures = λ κs a z e.

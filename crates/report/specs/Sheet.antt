@@ -13,7 +13,8 @@ use Rattle.members.specs.Class.{code}
 use Rattle.members.specs.Finding.{finding, flag, knowledge, Returned, refused}
 use Rattle.members.specs.declared.finding.Finding.{Finding}
 use Rattle.storeys.specs.Storey.{publishedRules, meetsWallShare, storeyFinding}
-use Rattle.storeys.specs.Building.{storeyIn, membersOf, tilted, buildingRisky, buildingFault}
+use Rattle.records.specs.Rows.{storeyIn, membersOf, recordsFault}
+use Rattle.storeys.specs.Building.{tilted, buildingRisky}
 use Rattle.storeys.specs.declared.StoreyFinding.{StoreyFinding}
 use Rattle.report.specs.declared.ReportAnswer.{ReportAnswer}
 use Rattle.report.specs.declared.ReportAnswer.the-variants.{Written, Refused}
@@ -69,7 +70,7 @@ lengthFault size room = pick (leb size room) 0 9
 
 -- the first refusal of the report call: those of the call on a building, "then 9"
 unfoldable pub reportFault : Header → List Storey → List Member → ℕ → ℕ
-reportFault h ss ms room = inOrder (buildingFault publishedRules h ss ms ∷ lengthFault (length (sheet h ss ms)) room ∷ [])
+reportFault h ss ms room = inOrder (recordsFault h ss ms ∷ lengthFault (length (sheet h ss ms)) room ∷ [])
 
 unfoldable pub reportAnswer : Header → List Storey → List Member → ℕ → ReportAnswer
 reportAnswer h ss ms room = pick (eqb (reportFault h ss ms room) 0) (Written (length (sheet h ss ms))) (Refused (reportFault h ss ms room))

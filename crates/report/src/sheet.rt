@@ -4,8 +4,8 @@ ghost use mathlib.Core.Bool.{true};
 ghost use Prim.Native.Nat.{_+_, _*_, _≤_};
 ghost use lib.ListN.{length};
 ghost use Rattle.members.specs.Finding.{knowledge};
-ghost use Rattle.storeys.specs.Storey.{publishedRules, memberRowsFault, storeyCallFault};
-ghost use Rattle.storeys.specs.Building.{buildingFault};
+ghost use Rattle.storeys.specs.Storey.{storeyCallFault};
+ghost use Rattle.records.specs.Rows.{memberRowsFault, recordsFault};
 ghost use Rattle.columns.specs.Bytes.{stamped};
 ghost use Rattle.report.specs.Sheet.{memberLines, storeyLines, storeysLines, returnedReport, reportReturned, bufferAfter};
 use crate::ReportJudgment;
@@ -42,7 +42,7 @@ fn put_members(out: &mut [u8], at: usize, k: u64, met: bool, rows: &[Member]) ->
 
 // The lines of a good storey: its members', then its own.
 fn put_storey_lines(out: &mut [u8], at: usize, k: u64, s: Storey, rows: &[Member]) -> usize
-    requires { ⌜ (storeyCallFault publishedRules k s (now rows) ≡ 0) × (at + (86 * length (now rows) + 74) ≤ length (now out)) ⌝ }
+    requires { ⌜ (storeyCallFault k s (now rows) ≡ 0) × (at + (86 * length (now rows) + 74) ≤ length (now out)) ⌝ }
     ensures { λ r. ⌜ r ≡ at + (86 * length (now (rows .entry)) + 74) ⌝ }
     ensures { λ _. ⌜ now (out .exit) ≡ stamped (now (out .entry)) at (storeyLines k s (now (rows .entry))) ⌝ }
 {
@@ -53,7 +53,7 @@ fn put_storey_lines(out: &mut [u8], at: usize, k: u64, s: Storey, rows: &[Member
 
 // The lines of the storeys of an accepted survey, from the front.
 fn put_storeys(out: &mut [u8], h: Header, storeys: &[Storey], members: &[Member]) -> usize
-    requires { ⌜ (buildingFault publishedRules h (now storeys) (now members) ≡ 0) × (86 * length (now members) + 74 * length (now storeys) ≤ length (now out)) ⌝ }
+    requires { ⌜ (recordsFault h (now storeys) (now members) ≡ 0) × (86 * length (now members) + 74 * length (now storeys) ≤ length (now out)) ⌝ }
     ensures { λ r. ⌜ r ≡ 86 * length (now (members .entry)) + 74 * length (now (storeys .entry)) ⌝ }
     ensures { λ _. ⌜ now (out .exit) ≡ stamped (now (out .entry)) 0 (storeysLines (h .knowledge) (now (storeys .entry)) (now (members .entry)) 0 (length (now (storeys .entry)))) ⌝ }
 {

@@ -6,7 +6,7 @@ use mathlib.Core.List.{List, [], _∷_}
 use mathlib.Core.Path.{_≡_, refl, ap, sym, _∙_}
 use lib.Dec.{leb, eqb}
 use lib.ListN.{length, getD}
-use borrow.Author.Tests.{ne-eqb, eqb-true, leb-true}
+use borrow.Author.Tests.{ne-eqb, eqb-true, leb-true, eq-eqb}
 use Rattle.records.specs.First.{pick, everyBelow, inOrder}
 use Rattle.records.specs.Records.{storeyFault, storeyValues, inRange}
 use Rattle.records.specs.declared.Storey.{Storey}
@@ -20,12 +20,13 @@ use Rattle.members.specs.Finding.{axialRatioD, knowledge}
 use Rattle.members.specs.Class.{isWall}
 use Rattle.storeys.specs.declared.StoreyFinding.{StoreyFinding}
 use Rattle.storeys.specs.declared.StoreyAnswer.{StoreyAnswer}
-use Rattle.storeys.specs.declared.StoreyAnswer.the-variants.{Refused}
+use Rattle.storeys.specs.declared.StoreyAnswer.the-variants.{Judged, Refused}
 use Rattle.storeys.specs.declared.row.Tally.{Tally}
 use Rattle.records.specs.Totals.{total}
-use Rattle.storeys.specs.Storey.{publishedRules, wallShear, meetsWallShare, axialTotal, over, shearIfOver, overShear, storeyRisky, riskyByDamage, storeyFinding, countFault, knowledgeFault, shearFault, memberIn, memberRowsFault, storeyCallFault, storeyAnswerBy, storeyAnswer, returnedStorey, storeyReturned}
+use Rattle.storeys.specs.Storey.{publishedRules, wallShear, meetsWallShare, axialTotal, over, shearIfOver, overShear, storeyRisky, riskyByDamage, storeyFinding, knowledgeFault, storeyCallFault, storeyAnswerBy, storeyAnswer, returnedStorey, storeyReturned}
+use Rattle.records.specs.Rows.{countFault, memberIn, memberRowsFault}
 use Rattle.records.specs.Blank.{noMember}
-use Rattle.storeys.specs.Tally.{tallyOf, Rows, Small, foundBy, headFault, judgedBy}
+use Rattle.storeys.specs.Tally.{tallyOf, Rows, Small, foundBy, headFault}
 use Rattle.storeys.proofs.Rows.{nd-most}
 use Rattle.storeys.proofs.Loops.{row-valid, pick-most}
 
@@ -37,7 +38,7 @@ shear-most s e =
     leb-true (s .shear) 9_999_999 (and-right (leb 1 (s .shear)) (leb (s .shear) 9_999_999) (every-at (inRange S (storeyValues s)) 3 1 t (omega arith)))
 
 -- a total of bounded terms
-total-most : {A : Type 0} (f : A → ℕ) (d : A) (n : ℕ) (xs : List A) → ((j : ℕ) → j < length xs → f (getD xs j d) ≤ n) → total f xs ≤ n * length xs
+pub total-most : {A : Type 0} (f : A → ℕ) (d : A) (n : ℕ) (xs : List A) → ((j : ℕ) → j < length xs → f (getD xs j d) ≤ n) → total f xs ≤ n * length xs
 unfolding total
 total-most f d n [] h = omega arith
 total-most f d n (x ∷ xs) h =
@@ -69,30 +70,25 @@ found-is k s rows w met t f a b c d = d ∙ rw (c, b, a)
 
 -- ---- the refusals before the finding
 module _ (k : ℕ) (s : Storey) (rows : List Member) (first : ℕ) (h : first ≡ headFault k s (length rows)) where
-  abbrev p : ℕ
-  p = overShear publishedRules k (meetsWallShare (s .shear) rows) rows
-
-  all-three : storeyCallFault publishedRules k s rows ≡ pick (eqb (pick (eqb first 0) (memberRowsFault rows) first) 0) (shearFault p) (pick (eqb first 0) (memberRowsFault rows) first)
+  all-two : storeyCallFault k s rows ≡ pick (eqb first 0) (memberRowsFault rows) first
   unfolding storeyCallFault
-  all-three =
-      in-order-last (countFault (s .count) (length rows) ∷ knowledgeFault k ∷ storeyFault s ∷ memberRowsFault rows ∷ []) (shearFault p)
-      ∙ ap (λ (x : ℕ). pick (eqb x 0) (shearFault p) x)
-      (in-order-last (countFault (s .count) (length rows) ∷ knowledgeFault k ∷ storeyFault s ∷ []) (memberRowsFault rows)
-      ∙ ap (λ (x : ℕ). pick (eqb x 0) (memberRowsFault rows) x) (sym h))
+  all-two =
+      in-order-last (countFault (s .count) (length rows) ∷ knowledgeFault k ∷ storeyFault s ∷ []) (memberRowsFault rows)
+      ∙ ap (λ (x : ℕ). pick (eqb x 0) (memberRowsFault rows) x) (sym h)
 
-  refused-is : (n : ℕ) → storeyCallFault publishedRules k s rows ≡ n → (n ≡ 0 → ⊥) → Refused n ≡ storeyAnswer k s rows
+  refused-is : (n : ℕ) → storeyCallFault k s rows ≡ n → (n ≡ 0 → ⊥) → Refused n ≡ storeyAnswer k s rows
   unfolding storeyAnswerBy
   refused-is n e ne = rw e (simp (ne-eqb n 0 ne))
 
   pub head-refused : (a : StoreyAnswer) → (first ≡ 0 → ⊥) → a ≡ Refused first → returnedStorey a ≡ storeyReturned k s rows
-  head-refused a ne q = ap returnedStorey (q ∙ refused-is first (all-three ∙ rw (pick-other first (memberRowsFault rows) ne) (pick-other first (shearFault p) ne)) ne)
+  head-refused a ne q = ap returnedStorey (q ∙ refused-is first (all-two ∙ pick-other first (memberRowsFault rows) ne) ne)
 
   module _ (z : first ≡ 0) (f : ℕ) (fp : f ≡ memberRowsFault rows) where
-    after : storeyCallFault publishedRules k s rows ≡ pick (eqb f 0) (shearFault p) f
-    after = all-three ∙ rw (pick-zero first (memberRowsFault rows) z, ← fp)
+    after : storeyCallFault k s rows ≡ f
+    after = all-two ∙ pick-zero first (memberRowsFault rows) z ∙ sym fp
 
     pub rows-refused : (a : StoreyAnswer) → (f ≡ 0 → ⊥) → a ≡ Refused f → returnedStorey a ≡ storeyReturned k s rows
-    rows-refused a ne q = ap returnedStorey (q ∙ refused-is f (after ∙ pick-other f (shearFault p) ne) ne)
+    rows-refused a ne q = ap returnedStorey (q ∙ refused-is f after ne)
 
     clear-head : inOrder (countFault (s .count) (length rows) ∷ knowledgeFault k ∷ storeyFault s ∷ []) ≡ 0
     clear-head = sym h ∙ z
@@ -121,13 +117,9 @@ module _ (k : ℕ) (s : Storey) (rows : List Member) (first : ℕ) (h : first �
     rows-clear y = record { good = sym fp ∙ y; most = omega (arith, count-is, count-most s storey-clear) }
 
     module _ (y : f ≡ 0) where
-      last-is : storeyCallFault publishedRules k s rows ≡ shearFault p
-      last-is = after ∙ pick-zero f (shearFault p) y
+      found-by : (x : StoreyFinding) → x ≡ storeyFinding publishedRules k (s .shear) rows → Judged x ≡ storeyAnswer k s rows
+      unfolding storeyAnswerBy
+      found-by x q = rw (q, eq-eqb _ _ (after ∙ y))
 
-      by-shear : (t : Bool) (x : StoreyFinding) → leb p 9_999_999_999 ≡ t → x ≡ storeyFinding publishedRules k (s .shear) rows → judgedBy x ≡ storeyAnswer k s rows
-      unfolding storeyAnswerBy storeyFinding
-      by-shear true x e q = rw (q, last-is) (simp e)
-      by-shear false x e q = rw (q, last-is) (simp e)
-
-      pub judged-is : (a : StoreyAnswer) (x : StoreyFinding) → x ≡ storeyFinding publishedRules k (s .shear) rows → a ≡ judgedBy x → returnedStorey a ≡ storeyReturned k s rows
-      judged-is a x q e = ap returnedStorey (e ∙ by-shear (leb p 9_999_999_999) x refl q)
+      pub judged-is : (a : StoreyAnswer) (x : StoreyFinding) → x ≡ storeyFinding publishedRules k (s .shear) rows → a ≡ Judged x → returnedStorey a ≡ storeyReturned k s rows
+      judged-is a x q e = ap returnedStorey (e ∙ found-by x q)

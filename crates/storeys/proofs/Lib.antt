@@ -1,4 +1,3 @@
-pub mod Refusals
 pub mod Accepted
 pub mod Rows
 pub mod Loops
@@ -9,3 +8,4 @@ pub mod Verdicts
 pub mod BuildingRows
 pub mod BuildingAnswers
 pub mod Returned
+pub mod Shears

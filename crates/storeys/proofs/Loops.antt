@@ -3,67 +3,27 @@ use Prim.Native.Nat.{ℕ, zero, suc, _+_, _*_, _-_, _≤_, _<_}
 use native.Mathlib.Omega.{arith}
 use native.Mathlib.Numerals.{add-one}
 use mathlib.Core.Bool.{Bool, true, false, _||_, or-false, or-assoc}
-use mathlib.Core.List.{List, [], _∷_}
+use mathlib.Core.List.{List}
 use mathlib.Core.Path.{_≡_, refl, ap, sym, _∙_}
 use lib.Dec.{eqb}
 use lib.ListN.{length, drop, getD, drop-of-length-le}
 use lib.Seq.{drop-cons}
-use Rattle.records.specs.First.{pick, anyBelow, inOrder, first}
+use Rattle.records.specs.First.{pick}
 use Rattle.records.specs.Records.{memberFault}
 use Rattle.records.specs.Valid.{Valid}
 use Rattle.records.specs.declared.Member.{Member}
-use Rattle.records.proofs.Below.{any-none, any-more, any-holds}
-use Rattle.records.proofs.Firsts.{first-none, first-next, first-kept, first-clear, pick-clear}
+use Rattle.records.proofs.Firsts.{first-clear, pick-clear}
 use Rattle.records.proofs.Validity.{valid}
 use Rattle.members.specs.Units.{ratioCap}
 use Rattle.members.specs.Class.{isWall}
 use Rattle.members.specs.Finding.{axialRatioD, knowledge, flag}
 use Rattle.records.specs.Totals.{total, anyOf}
-use Rattle.storeys.specs.Storey.{publishedRules, wallShear, axialTotal, over, shearIfOver, overShear, someOver, damaged, memberIn, rowFault, memberRowsFault}
+use Rattle.storeys.specs.Storey.{publishedRules, wallShear, axialTotal, over, shearIfOver, overShear, someOver, damaged}
+use Rattle.records.specs.Rows.{memberIn, rowFault, memberRowsFault}
 use Rattle.records.specs.Blank.{noMember}
 use Rattle.storeys.specs.declared.row.Tally.{Tally}
 use Rattle.storeys.specs.Tally.{weightOf, noTally, added, tallyOf, Rows, AddsUp}
 use Rattle.storeys.proofs.Rows.{nd-most}
-
--- ---- a number among those before
-module _ (rows : List Member) (v n : ℕ) where
-  abbrev same : ℕ → Bool
-  same e = eqb (memberIn rows e .number) v
-
-  pub unseen : anyBelow same 0 ≡ false
-  unseen = any-none same
-
-  pub unseen-next : (e r : ℕ) → anyBelow same e ≡ false → r ≡ memberIn rows e .number → eqb r v ≡ false → anyBelow same (e + 1) ≡ false
-  unseen-next e r h p q = any-more same e h (rw p at q)
-
-  pub seen-here : (e r : ℕ) → e < n → r ≡ memberIn rows e .number → eqb r v ≡ true → _≡_ {A = ℕ} 5 (pick (anyBelow same n) 5 0)
-  seen-here e r h p q = rw (any-holds same n e h (rw p at q))
-
-  pub unseen-all : (e : ℕ) → anyBelow same e ≡ false → e ≤ n → n ≤ e → _≡_ {A = ℕ} 0 (pick (anyBelow same n) 5 0)
-  unseen-all e h p q = let z : e ≡ n = omega arith in rw (rw z at h)
-
--- ---- the first refusal of the members
-module _ (rows : List Member) where
-  pub clear-none : first 0 (λ r. r) (rowFault rows) 0 ≡ 0
-  clear-none = first-none 0 (λ r. r) (rowFault rows)
-
-  module _ (j : ℕ) (n x f : ℕ) (c : first 0 (λ r. r) (rowFault rows) j ≡ 0) (np : n ≡ memberIn rows j .number) (xp : x ≡ pick (anyBelow (λ (e : ℕ). eqb (memberIn rows e .number) n) j) 5 0) (fp : f ≡ inOrder (memberFault (memberIn rows j) ∷ x ∷ [])) where
-    fault-is : f ≡ rowFault rows j
-    unfolding rowFault
-    fault-is = fp ∙ rw (xp, np)
-
-    pub refused-here : j < length rows → (f ≡ 0 → ⊥) → f ≡ memberRowsFault rows
-    unfolding memberRowsFault
-    refused-here h ne =
-        let e : first 0 (λ r. r) (rowFault rows) (j + 1) ≡ f = first-next 0 (λ r. r) (rowFault rows) j c ∙ sym fault-is in
-        sym (first-kept 0 (λ r. r) (rowFault rows) (j + 1) (length rows) (omega arith) (λ z. ne (sym e ∙ z)) ∙ e)
-
-    pub clear-next : f ≡ 0 → first 0 (λ r. r) (rowFault rows) (j + 1) ≡ 0
-    clear-next z = first-next 0 (λ r. r) (rowFault rows) j c ∙ sym fault-is ∙ z
-
-  pub clear-all : (j : ℕ) → first 0 (λ r. r) (rowFault rows) j ≡ 0 → j ≤ length rows → length rows ≤ j → 0 ≡ memberRowsFault rows
-  unfolding memberRowsFault
-  clear-all j c h g = let z : j ≡ length rows = omega arith in sym (rw z at c)
 
 -- ---- totals
 module _ {A : Type 0} (f : A → ℕ) (d : A) where

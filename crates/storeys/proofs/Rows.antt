@@ -3,11 +3,8 @@ use Prim.Native.Nat.{ℕ, _+_, _*_, _-_, _≤_}
 use native.Mathlib.Omega.{arith}
 use native.Mathlib.Nat.{mul-le-mul}
 use mathlib.Core.Bool.{Bool, true, false, _&&_, _||_, or-true, or-false}
-use mathlib.Core.List.{[], _∷_}
-use mathlib.Core.Path.{_≡_, sym, ap, _∙_}
+use mathlib.Core.Path.{_≡_, sym, ap}
 use lib.Dec.{leb, ltb}
-use Rattle.records.specs.First.{inOrder}
-use Rattle.records.proofs.Firsts.{last-of, pick-zero, pick-other}
 use Rattle.storeys.specs.Storey.{exceedsShare, publishedRules}
 use Rattle.storeys.specs.declared.row.Tally.{Tally}
 use Rattle.storeys.specs.Tally.{weightOf, riskyBy, added, addedBy, AddsUp, AddsNumbers}
@@ -20,13 +17,6 @@ use Rattle.members.specs.declared.finding.Finding.{Finding}
 use Rattle.members.specs.declared.finding.MemberAnswer.{MemberAnswer}
 use Rattle.members.specs.declared.finding.MemberAnswer.the-variants.{Judged, Refused}
 use Rattle.members.specs.Finding.{axial, axialRatioD, finding, findingBy, knowledge, answerBy, memberAnswer, returned, memberReturned}
-
--- the first of two refusals
-pub two-first : (a b : ℕ) → (a ≡ 0 → ⊥) → a ≡ inOrder (a ∷ b ∷ [])
-two-first a b h = sym (pick-other a (inOrder (b ∷ [])) h)
-
-pub two-second : (a b : ℕ) → a ≡ 0 → b ≡ inOrder (a ∷ b ∷ [])
-two-second a b h = sym (pick-zero a (inOrder (b ∷ [])) h ∙ last-of b)
 
 -- the products of the share test fit
 pub share-left : (w d : ℕ) → w ≤ 9_999_999 → d ≤ 1_300_000 → 7 * w * d ≤ 90_999_990_900_000

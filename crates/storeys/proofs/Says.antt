@@ -1,40 +1,25 @@
 -- The contracts of the functions over rows, for their walks and for their callers' walks. Each is checked against the function's own
 -- clauses where the function is proved.
-use Prim.Native.Nat.{ℕ, _≤_}
 use mathlib.Core.Bool.{true}
 use mathlib.Core.List.{[], _∷_}
 use mathlib.Core.Path.{_≡_}
-use lib.Dec.{eqb}
 use lib.ListN.{length}
 use mir.Syntax.{w64}
-use borrow.Fn.Kinds.{rNum, rBool}
+use borrow.Fn.Kinds.{rNum}
 use borrow.Kind.Num.{pNum}
 use borrow.Kind.Bool.{pBool}
 use borrow.Kind.ShrSlice.{pShrS}
-use Rattle.records.specs.First.{pick, anyBelow, first}
 use Rattle.records.specs.Records.{storeyFault}
 use Rattle.members.specs.Finding.{knowledge}
 use Rattle.records.specs.Totals.{total}
-use Rattle.storeys.specs.Storey.{publishedRules, wallShear, memberIn, memberRowsFault, storeyFinding, returnedStorey, storeyReturned}
+use Rattle.storeys.specs.Storey.{publishedRules, wallShear, storeyFinding, returnedStorey, storeyReturned}
 use Rattle.storeys.specs.Tally.{tallyOf, Rows}
-use Rattle.storeys.specs.Building.{storeyIn, storeyRowsFault, Answers as Answered}
-use Rattle.storeys.specs.Verdict.{verdictOf, Counted, GoodRows}
+use Rattle.storeys.specs.Building.{Answers as Answered}
+use Rattle.storeys.specs.Verdict.{verdictOf, GoodRows}
 use Rattle.walk.proofs.Fn.{Plain}
 use Rattle.walk.proofs.Slice.{R, taken, made}
 use Rattle.records.proofs.Structs.{header, member, storey}
 use Rattle.storeys.proofs.Structs.{tally as tallied, storeyfinding, storeyjudgment, verdict, buildingjudgment}
-
-abbrev pub repeat-fault : Plain {n = 1} (pShrS (R member) 0 tt ∷ pNum w64 ∷ pNum w64 ∷ []) (rNum w64)
-repeat-fault = record {
-  requires = λ κs a. (a .1 .0 ≤ length (a .0 .now)) ∷ [];
-  ensures = λ κs a z e. (z ≡ pick (anyBelow (λ (e : ℕ). eqb (memberIn (a .0 .now) e .number) (a .1 .1 .0)) (a .1 .0)) 5 0) ∷ [];
-}
-
-abbrev pub members-fault : Plain {n = 1} (pShrS (R member) 0 tt ∷ []) (rNum w64)
-members-fault = record {
-  requires = λ κs a. [];
-  ensures = λ κs a z e. (z ≡ memberRowsFault (a .0 .now)) ∷ [];
-}
 
 abbrev pub wall-total : Plain {n = 1} (pShrS (R member) 0 tt ∷ []) (rNum w64)
 wall-total = record {
@@ -58,24 +43,6 @@ abbrev pub judge-storey : Plain {n = 1} (pNum w64 ∷ taken storey ∷ pShrS (R 
 judge-storey = record {
   requires = λ κs a. [];
   ensures = λ κs a z e. (returnedStorey (z .answer) ≡ storeyReturned (a .0) (a .1 .0) (a .1 .1 .0 .now)) ∷ [];
-}
-
-abbrev pub counts-fit : Plain {n = 1} (pShrS (R storey) 0 tt ∷ pNum w64 ∷ []) rBool
-counts-fit = record {
-  requires = λ κs a. [];
-  ensures = λ κs a z e. (z ≡ eqb (total (λ s. s .count) (a .0 .now)) (a .1 .0)) ∷ [];
-}
-
-abbrev pub storey-repeat-fault : Plain {n = 1} (pShrS (R storey) 0 tt ∷ pNum w64 ∷ pNum w64 ∷ []) (rNum w64)
-storey-repeat-fault = record {
-  requires = λ κs a. (a .1 .0 ≤ length (a .0 .now)) ∷ [];
-  ensures = λ κs a z e. (z ≡ pick (anyBelow (λ (e : ℕ). eqb (storeyIn (a .0 .now) e .number) (a .1 .1 .0)) (a .1 .0)) 5 0) ∷ [];
-}
-
-abbrev pub rows-fault : Plain {n = 2} (pShrS (R storey) 0 tt ∷ pShrS (R member) 1 tt ∷ []) (rNum w64)
-rows-fault = record {
-  requires = λ κs a. (Counted (a .0 .now) (a .1 .0 .now)) ∷ [];
-  ensures = λ κs a z e. (z ≡ first 0 (λ n. n) (storeyRowsFault (a .0 .now) (a .1 .0 .now)) (length (a .0 .now))) ∷ [];
 }
 
 abbrev pub storeys-verdict : Plain {n = 2} (pNum w64 ∷ pShrS (R storey) 0 tt ∷ pShrS (R member) 1 tt ∷ []) (made verdict)

@@ -2,3 +2,4 @@ pub mod Storey
 pub mod Building
 pub mod Tally
 pub mod Verdict
+pub mod Shears

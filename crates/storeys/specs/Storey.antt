@@ -3,10 +3,9 @@ use Prim.Native.Nat.{ℕ, _+_, _-_, _*_}
 use mathlib.Core.Bool.{Bool, _&&_, _||_}
 use mathlib.Core.List.{List, [], _∷_}
 use lib.Dec.{leb, ltb, eqb}
-use lib.ListN.{length, getD}
-use Rattle.records.specs.Blank.{noMember}
+use lib.ListN.{length}
 use Rattle.records.specs.First.{pick, inOrder, first}
-use Rattle.records.specs.Records.{storeyFault, memberFault, repeated}
+use Rattle.records.specs.Records.{storeyFault}
 use Rattle.records.specs.declared.Storey.{Storey}
 use Rattle.records.specs.declared.Member.{Member}
 use Rattle.members.specs.Units.{shareFrom, shareTo}
@@ -19,6 +18,7 @@ use Rattle.storeys.specs.declared.StoreyFinding.{StoreyFinding}
 use Rattle.storeys.specs.declared.StoreyAnswer.{StoreyAnswer}
 use Rattle.storeys.specs.declared.StoreyAnswer.the-variants.{Judged, Refused}
 use Rattle.records.specs.Totals.{total, anyOf}
+use Rattle.records.specs.Rows.{countFault, memberRowsFault}
 
 -- what a survey is judged by: the limits of the members, and the axial ratios per member between which the allowed share falls
 pub record Rules : Type 0 where
@@ -90,39 +90,17 @@ storeyFinding rules k w ms =
       «walls_suffice» = meetsWallShare w ms;
     }
 
--- 1, a count that isn't the rows given
-abbrev pub countFault : ℕ → ℕ → ℕ
-countFault count rows = pick (eqb count rows) 0 1
-
 -- 3, k not one of the two levels
 abbrev pub knowledgeFault : ℕ → ℕ
 knowledgeFault k = pick (knowledge k) 0 3
 
--- 10, P above 9,999,999,999
-abbrev pub shearFault : ℕ → ℕ
-shearFault p = pick (leb p 9_999_999_999) 0 10
-
--- row j of some members, counted from 0
-abbrev pub memberIn : List Member → ℕ → Member
-memberIn ms j = getD ms j noMember
-
--- a member's 3 and 4, then its 5: its number is one of those before it in the storey
-unfoldable pub rowFault : List Member → ℕ → ℕ
-rowFault ms j = inOrder (memberFault (memberIn ms j) ∷ repeated (λ e. memberIn ms e .number) j ∷ [])
-
--- the first refusal of the members of a storey, in their order
-unfoldable pub memberRowsFault : List Member → ℕ
-memberRowsFault ms = first 0 (λ n. n) (rowFault ms) (length ms)
-
--- the first refusal of the call on a storey: 1, k's 3, the storey's 3, its members' 3, 4 and 5, and 10
-unfoldable pub storeyCallFault : Rules → ℕ → Storey → List Member → ℕ
-storeyCallFault rules k s ms =
-    inOrder (countFault (s .count) (length ms) ∷ knowledgeFault k ∷ storeyFault s ∷ memberRowsFault ms
-    ∷ shearFault (overShear rules k (meetsWallShare (s .shear) ms) ms) ∷ [])
+-- the first refusal of the call on a storey: 1, k's 3, the storey's 3, its members' 3, 4 and 5
+unfoldable pub storeyCallFault : ℕ → Storey → List Member → ℕ
+storeyCallFault k s ms = inOrder (countFault (s .count) (length ms) ∷ knowledgeFault k ∷ storeyFault s ∷ memberRowsFault ms ∷ [])
 
 unfoldable pub storeyAnswerBy : Rules → ℕ → Storey → List Member → StoreyAnswer
 storeyAnswerBy rules k s ms =
-    pick (eqb (storeyCallFault rules k s ms) 0) (Judged (storeyFinding rules k (s .shear) ms)) (Refused (storeyCallFault rules k s ms))
+    pick (eqb (storeyCallFault k s ms) 0) (Judged (storeyFinding rules k (s .shear) ms)) (Refused (storeyCallFault k s ms))
 
 -- the answer on a storey, by the published rules
 abbrev pub storeyAnswer : ℕ → Storey → List Member → StoreyAnswer

@@ -11,11 +11,10 @@ use Rattle.records.specs.declared.Storey.{Storey}
 use Rattle.records.specs.declared.Member.{Member}
 use Rattle.members.specs.Units.{ratioCap}
 use Rattle.members.specs.Finding.{axialRatioD, flag, knowledge}
-use Rattle.storeys.specs.declared.StoreyAnswer.{StoreyAnswer}
-use Rattle.storeys.specs.declared.StoreyAnswer.the-variants.{Judged, Refused}
 use Rattle.storeys.specs.declared.StoreyFinding.{StoreyFinding}
 use Rattle.storeys.specs.declared.row.Tally.{Tally}
-use Rattle.storeys.specs.Storey.{publishedRules, axialTotal, over, overShear, someOver, damaged, exceedsShare, countFault, knowledgeFault, shearFault, memberRowsFault}
+use Rattle.storeys.specs.Storey.{publishedRules, axialTotal, over, overShear, someOver, damaged, exceedsShare, knowledgeFault}
+use Rattle.records.specs.Rows.{countFault, memberRowsFault}
 
 -- what a member with damage of a kind adds: 20, 28, 35, 140
 abbrev pub weightOf : ℕ → ℕ
@@ -87,7 +86,3 @@ foundBy s rows met t =
 -- the refusals of the call on a storey before its members'
 abbrev pub headFault : ℕ → Storey → ℕ → ℕ
 headFault k s rows = inOrder (countFault (s .count) rows ∷ knowledgeFault k ∷ storeyFault s ∷ [])
-
--- the finding, or 10
-abbrev pub judgedBy : StoreyFinding → StoreyAnswer
-judgedBy f = pick (eqb (shearFault (f .«over_shear»)) 0) (Judged f) (Refused 10)

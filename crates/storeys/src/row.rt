@@ -1,12 +1,9 @@
 // One record, by value: what the loops over rows do with each.
 ghost use mathlib.Core.Path.{_≡_};
-ghost use mathlib.Core.List.{[], _∷_};
 ghost use Prim.Native.Nat.{_+_, _*_, _≤_};
 ghost use lib.Dec.{leb};
-ghost use Rattle.records.specs.First.{inOrder};
-ghost use Rattle.records.specs.Records.{storeyFault, memberFault};
 ghost use Rattle.storeys.specs.Storey.{publishedRules, wallShear, exceedsShare};
-ghost use Rattle.storeys.specs.Tally.{weightOf, noTally, added, addedBy, AddsUp, AddsNumbers, headFault, foundBy, judgedBy, riskyBy, Small};
+ghost use Rattle.storeys.specs.Tally.{weightOf, noTally, added, addedBy, AddsUp, AddsNumbers, headFault, foundBy, riskyBy, Small};
 use crate::StoreyAnswer;
 use crate::StoreyFinding;
 use crate::StoreyJudgment;
@@ -22,9 +19,6 @@ use records::Storey;
 use records::ranges::member_fault;
 use records::ranges::storey_fault;
 
-// The largest P that is judged; a larger one is refused by 10.
-pub(crate) const OVER_SHEAR_MOST: u64 = 9_999_999_999;
-
 // The totals over some members of a storey.
 pub(crate) struct Tally {
     // Σ
@@ -35,40 +29,6 @@ pub(crate) struct Tally {
     pub some: bool,
     // 20, 28, 35 or 140 for each damaged member
     pub damage: u64,
-}
-
-pub(crate) fn number_of(m: Member) -> u64
-    ensures { λ r. ⌜ r ≡ m .number ⌝ }
-{
-    m.number
-}
-
-pub(crate) fn storey_number(s: Storey) -> u64
-    ensures { λ r. ⌜ r ≡ s .number ⌝ }
-{
-    s.number
-}
-
-// A member's 3 and 4, then the 5 that is handed in.
-pub(crate) fn row_fault(m: Member, repeated: u64) -> u64
-    ensures { λ r. ⌜ r ≡ inOrder (memberFault m ∷ repeated ∷ []) ⌝ }
-{
-    let f = member_fault(m);
-    if f != 0 {
-        return f;
-    }
-    repeated
-}
-
-// A storey's 3, then the 5 that is handed in.
-pub(crate) fn storey_row_fault(s: Storey, repeated: u64) -> u64
-    ensures { λ r. ⌜ r ≡ inOrder (storeyFault s ∷ repeated ∷ []) ⌝ }
-{
-    let f = storey_fault(s);
-    if f != 0 {
-        return f;
-    }
-    repeated
 }
 
 // The walls' V so far, with one member more.
@@ -220,13 +180,9 @@ pub(crate) fn refused_storey(number: u64) -> StoreyJudgment
     }
 }
 
-// The finding, or 10.
 pub(crate) fn judged_storey(f: StoreyFinding) -> StoreyJudgment
-    ensures { λ r. ⌜ r .answer ≡ judgedBy f ⌝ }
+    ensures { λ r. ⌜ r .answer ≡ StoreyAnswer.Judged f ⌝ }
 {
-    if OVER_SHEAR_MOST < f.over_shear {
-        return refused_storey(10);
-    }
     StoreyJudgment {
         answer: StoreyAnswer::Judged(f),
     }

@@ -1,14 +1,10 @@
 // The call on a storey, over a lent row of members. Whole records are moved here; whatever looks into one is in `row`.
 ghost use mathlib.Core.Path.{_≡_};
 ghost use mathlib.Core.Bool.{true};
-ghost use Prim.Native.Nat.{ℕ, _≤_};
-ghost use lib.Dec.{eqb};
-ghost use lib.ListN.{length};
-ghost use Rattle.records.specs.First.{pick, anyBelow};
 ghost use Rattle.records.specs.Records.{storeyFault};
 ghost use Rattle.members.specs.Finding.{knowledge};
 ghost use Rattle.records.specs.Totals.{total};
-ghost use Rattle.storeys.specs.Storey.{publishedRules, wallShear, memberIn, memberRowsFault, storeyFinding, returnedStorey, storeyReturned};
+ghost use Rattle.storeys.specs.Storey.{publishedRules, wallShear, storeyFinding, returnedStorey, storeyReturned};
 ghost use Rattle.storeys.specs.Tally.{tallyOf, Rows};
 use crate::StoreyFinding;
 use crate::StoreyJudgment;
@@ -20,43 +16,10 @@ use crate::row::head_fault;
 use crate::row::judged_storey;
 use crate::row::meets;
 use crate::row::no_tally;
-use crate::row::number_of;
 use crate::row::refused_storey;
-use crate::row::row_fault;
 use records::Member;
 use records::Storey;
-
-// 5 where one of the first n members has the number v.
-fn repeat_fault(rows: &[Member], n: usize, v: u64) -> u64
-    requires { ⌜ n ≤ length (now rows) ⌝ }
-    ensures { λ r. ⌜ r ≡ pick (anyBelow (λ (e : ℕ). eqb (memberIn (now (rows .entry)) e .number) v) n) 5 0 ⌝ }
-{
-    let mut e = 0;
-    while e < n {
-        if number_of(rows[e]) == v {
-            return 5;
-        }
-        e = e + 1;
-    }
-    0
-}
-
-// The first refusal of the members, in their order.
-pub(crate) fn members_fault(rows: &[Member]) -> u64
-    ensures { λ r. ⌜ r ≡ memberRowsFault (now (rows .entry)) ⌝ }
-{
-    let mut j = 0;
-    while j < rows.len() {
-        let m = rows[j];
-        let repeated = repeat_fault(rows, j, number_of(m));
-        let fault = row_fault(m, repeated);
-        if fault != 0 {
-            return fault;
-        }
-        j = j + 1;
-    }
-    0
-}
+use records::rows::members_fault;
 
 // The walls' V.
 fn wall_total(rows: &[Member]) -> u64

@@ -3,14 +3,12 @@ ghost use mathlib.Core.Path.{_≡_};
 ghost use mathlib.Core.Bool.{_||_};
 ghost use lib.Dec.{ltb};
 ghost use Rattle.records.specs.First.{pick};
-ghost use Rattle.storeys.specs.Storey.{shearFault};
 ghost use Rattle.storeys.specs.Building.{tilted};
-ghost use Rattle.storeys.specs.Verdict.{noVerdict, notedBy, headerCallFault, verdictAnswer};
+ghost use Rattle.storeys.specs.Verdict.{noVerdict, notedBy, verdictAnswer};
 use crate::BuildingAnswer;
 use crate::BuildingFinding;
 use crate::BuildingJudgment;
 use crate::StoreyFinding;
-use crate::row::OVER_SHEAR_MOST;
 use records::Header;
 use records::first::earlier;
 use records::ranges::header_fault;
@@ -20,8 +18,6 @@ const TILT_ALLOWED: u64 = 25_000;
 
 // What is found of some storeys, from the first on.
 pub(crate) struct Verdict {
-    // 10 where P of one of them is above `OVER_SHEAR_MOST`, else 0
-    pub fault: u64,
     // the place of the first Risky one, counted from 1; 0 where none is
     pub place: u64,
 }
@@ -29,17 +25,7 @@ pub(crate) struct Verdict {
 pub(crate) fn no_verdict() -> Verdict
     ensures { λ r. ⌜ r ≡ noVerdict ⌝ }
 {
-    Verdict { fault: 0, place: 0 }
-}
-
-// 10 where P is above `OVER_SHEAR_MOST`.
-fn shear_fault(f: StoreyFinding) -> u64
-    ensures { λ r. ⌜ r ≡ shearFault (f .«over_shear») ⌝ }
-{
-    if OVER_SHEAR_MOST < f.over_shear {
-        return 10;
-    }
-    0
+    Verdict { place: 0 }
 }
 
 // The place of a Risky storey, and of another 0.
@@ -57,7 +43,6 @@ pub(crate) fn noted(v: Verdict, place: usize, f: StoreyFinding) -> Verdict
     ensures { λ r. ⌜ r ≡ notedBy v place f ⌝ }
 {
     Verdict {
-        fault: earlier(v.fault, shear_fault(f)),
         place: earlier(v.place, place_if_risky(f, place)),
     }
 }
@@ -66,19 +51,6 @@ pub fn level_of(h: Header) -> u64
     ensures { λ r. ⌜ r ≡ h .knowledge ⌝ }
 {
     h.knowledge
-}
-
-// The refusals of the call on a building before its rows': 1, and the header's 3 and 7.
-pub(crate) fn header_call_fault(h: Header, storeys: usize, fit: bool) -> u64
-    ensures { λ r. ⌜ r ≡ headerCallFault h storeys fit ⌝ }
-{
-    if h.count != storeys as u64 {
-        return 1;
-    }
-    if !fit {
-        return 1;
-    }
-    header_fault(h)
 }
 
 // The larger tilt is above 25,000.
@@ -109,13 +81,9 @@ pub(crate) fn refused_building(number: u64) -> BuildingJudgment
     }
 }
 
-// The finding, or 10.
 pub(crate) fn judged_building(h: Header, v: Verdict) -> BuildingJudgment
     ensures { λ r. ⌜ r .answer ≡ verdictAnswer h v ⌝ }
 {
-    if v.fault != 0 {
-        return refused_building(v.fault);
-    }
     let tilted = is_tilted(h);
     BuildingJudgment {
         answer: BuildingAnswer::Judged(BuildingFinding {

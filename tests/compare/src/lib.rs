@@ -50,7 +50,7 @@ pub fn member_of(numbers: &[u64; 26]) -> Member {
 
 /// A refusal of the proved library as the independent program has it.
 fn refusal(r: llunareth::Refusal) -> Refusal {
-    Refusal::at(r.number.try_into().expect("a number from 1 to 10"), r.line)
+    Refusal::at(r.number.try_into().expect("a number from 1 to 9"), r.line)
 }
 
 /// What stands in an `out` before a call: numbers that no call puts out.

@@ -1,6 +1,7 @@
 //! The calls on a member, a storey and a building against the independent program.
-use compare::{same_building, same_member, same_storey};
+use compare::{same_building, same_member, same_report, same_storey};
 use generator::{edge_member_for, valid_survey, wild_member, wild_storey, wild_survey, Rng};
+use independent::{Header, Member, Storey, Survey};
 
 const SEED: u64 = 20_260_116;
 
@@ -97,4 +98,30 @@ fn counts_that_would_overflow() {
         survey.header.storey_count = survey.storeys.len() as u64;
         same_building(&survey);
     }
+}
+
+/// 200 members, the most of a storey, all over, each with the largest V: none of the calls refuses them.
+#[test]
+fn the_largest_shears() {
+    let first = [
+        1, 300, 300, 90_000, 100, 110, 2_200, 270, 3_000, 200, 250, 100, 0, 0, 0, 100, 0, 3_150, 3_150, 600, 200, 60, 100, 9_999_999, 9_000, 0,
+    ];
+    let members: Vec<Member> = (1..=200)
+        .map(|number| {
+            let mut fields = first;
+            fields[0] = number;
+            Member::from_fields(&fields)
+        })
+        .collect();
+    let survey = Survey {
+        header: Header::from_fields(&[100, 9_000, 3, 0, 0, 1]),
+        storeys: vec![Storey::from_fields(&[1, 1_000, 200])],
+        members,
+    };
+    let found = independent::judge_storey(100, &survey.storeys[0], &survey.members).unwrap();
+    assert_eq!((found.c, found.p), (200, 1_999_999_800));
+    assert_eq!(same_storey(100, &survey.storeys[0], &survey.members), None);
+    assert_eq!(same_building(&survey), None);
+    let sheet = independent::report(&survey.header, &survey.storeys, &survey.members, usize::MAX).unwrap();
+    assert_eq!(same_report(&survey, sheet.len()), None);
 }

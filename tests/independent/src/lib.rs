@@ -1,7 +1,7 @@
 //! Risk verdict for low-rise reinforced concrete: a second program after
-//! document 01, for comparison.
+//! document 01, with request N10 of document 02, for comparison.
 //!
-//! NOTES.md lists the points that the paper leaves open.
+//! NOTES.md lists the points that the paper leaves open and what N10 changed.
 
 mod fraction;
 pub mod members;

@@ -22,7 +22,7 @@ pub fn report(
     let mut sheet = Vec::new();
     let mut storey_findings = Vec::new();
     for (s, its_members) in by_storey(storeys, members) {
-        let (storey_finding, member_findings) = find_storey(h.knowledge, s, its_members)?;
+        let (storey_finding, member_findings) = find_storey(h.knowledge, s, its_members);
         for (m, f) in its_members.iter().zip(&member_findings) {
             write_member(&mut sheet, m.number, f);
         }

@@ -4,9 +4,6 @@ use crate::fraction::Fraction;
 use crate::members::{find, is_wall, MemberFinding};
 use crate::records::{by_storey, check_storey_call, check_survey, Header, Member, Refusal, Storey};
 
-/// The largest P.
-const P_MOST: u128 = 9_999_999_999;
-
 /// The largest tilt that passes, microradians.
 const TILT_MOST: u64 = 25_000;
 
@@ -39,7 +36,7 @@ pub struct BuildingFinding {
 /// A storey, given k, its record and its members.
 pub fn judge_storey(k: u64, s: &Storey, members: &[Member]) -> Result<StoreyFinding, Refusal> {
     check_storey_call(k, s, members)?;
-    let (finding, _) = find_storey(k, s, members)?;
+    let (finding, _) = find_storey(k, s, members);
     Ok(finding)
 }
 
@@ -52,17 +49,17 @@ pub fn judge_building(
     check_survey(h, storeys, members)?;
     let mut findings = Vec::new();
     for (s, its_members) in by_storey(storeys, members) {
-        findings.push(find_storey(h.knowledge, s, its_members)?.0);
+        findings.push(find_storey(h.knowledge, s, its_members).0);
     }
     Ok(find_building(h, &findings))
 }
 
-/// The findings of a checked storey and of its members; 10 if P is too large.
+/// The findings of a checked storey and of its members.
 pub(crate) fn find_storey(
     k: u64,
     s: &Storey,
     members: &[Member],
-) -> Result<(StoreyFinding, Vec<MemberFinding>), Refusal> {
+) -> (StoreyFinding, Vec<MemberFinding>) {
     let meets_wall_share = walls_carry_their_share(s, members);
     let found: Vec<MemberFinding> = members
         .iter()
@@ -72,8 +69,6 @@ pub(crate) fn find_storey(
     let c = members.len() as u64;
     let sum: u64 = found.iter().map(|f| f.n_d).sum();
     let p = shear_of_members_over(members, &found);
-    check_p(p)?;
-    let p = p as u64;
     let some_member_over = found.iter().any(|f| f.over);
 
     let risky = share_exceeded(p, s.shear, sum, c)
@@ -89,7 +84,7 @@ pub(crate) fn find_storey(
         risky,
         meets_wall_share,
     };
-    Ok((finding, found))
+    (finding, found)
 }
 
 /// The building from its storeys' findings.
@@ -118,21 +113,15 @@ fn walls_carry_their_share(s: &Storey, members: &[Member]) -> bool {
     100 * walls >= 40 * s.shear as u128
 }
 
-fn shear_of_members_over(members: &[Member], found: &[MemberFinding]) -> u128 {
+/// P: in a checked storey at most 200 x 9,999,999 = 1,999,999,800.
+fn shear_of_members_over(members: &[Member], found: &[MemberFinding]) -> u64 {
     let mut p = 0;
     for (m, f) in members.iter().zip(found) {
         if f.over {
-            p += m.v as u128;
+            p += m.v;
         }
     }
     p
-}
-
-fn check_p(p: u128) -> Result<(), Refusal> {
-    if p > P_MOST {
-        return Err(Refusal::of_record(10));
-    }
-    Ok(())
 }
 
 /// The share of the storey shear that members over may carry.
@@ -172,17 +161,5 @@ mod tests {
         assert_eq!(share(12_999, 2), Fraction::new(7, 220_000));
         assert_eq!(share(13_000, 2), Fraction::whole(0));
         assert_eq!(share(13_001, 2), Fraction::whole(0));
-    }
-
-    #[test]
-    fn p_too_large() {
-        assert_eq!(check_p(9_999_999_999), Ok(()));
-        assert_eq!(
-            check_p(10_000_000_000),
-            Err(Refusal {
-                number: 10,
-                line: 0
-            })
-        );
     }
 }

@@ -611,6 +611,71 @@ fn every_risky_place() {
     assert_eq!(tags, b"MMSMMSMMSB");
 }
 
+/// 200 members over, each with the largest V: the largest P there is.
+#[test]
+fn the_largest_p_is_judged_and_printed() {
+    let largest = Member {
+        v: 9_999_999,
+        ..member()
+    };
+    let members = copies(&largest, 200);
+    for m in &members {
+        assert!(judge_member(100, false, m).unwrap().over);
+    }
+    let s = Storey {
+        member_count: 200,
+        ..storey()
+    };
+    let f = judge_storey(100, &s, &members).unwrap();
+    assert_eq!(
+        (f.number, f.sum, f.c, f.p, f.w),
+        (1, 700_000, 200, 1_999_999_800, 1_000)
+    );
+    assert!(f.risky && !f.meets_wall_share);
+    let b = judge_building(&header(), &[s], &members).unwrap();
+    assert!(b.risky && !b.tilt_above);
+    assert_eq!(b.risky_places, [1]);
+
+    let mut expected = String::new();
+    for number in 1..=200 {
+        expected.push_str(&format!(
+            "M{number:>12}           2       30000       25909        9000       12500           1\n"
+        ));
+    }
+    expected.push_str(
+        "S           1      700000         200  1999999800        1000           1\n\
+         B           0           1\n",
+    );
+    let sheet = report(&header(), &[s], &members, expected.len()).unwrap();
+    assert_eq!(sheet, expected.as_bytes());
+
+    // The same from a file.
+    let mut file = line('B', B) + &line('S', "1 1000 200");
+    for number in 1..=200 {
+        let text = with_number(&line('M', M1), 1, number);
+        file.push_str(&with_number(&text, 24, 9_999_999));
+    }
+    assert_eq!(determine(file.as_bytes()), expected.as_bytes());
+
+    // Nothing larger gets as far as P: one more of V or of members is 3.
+    let number_of = |s: &Storey, members: &[Member]| {
+        let storey_call = judge_storey(100, s, members).unwrap_err();
+        let building_call = judge_building(&header(), &[*s], members).unwrap_err();
+        let report_call = report(&header(), &[*s], members, usize::MAX).unwrap_err();
+        assert_eq!(storey_call, building_call);
+        assert_eq!(storey_call, report_call);
+        storey_call.number
+    };
+    let mut more_shear = members.clone();
+    more_shear[199].v = 10_000_000;
+    assert_eq!(number_of(&s, &more_shear), 3);
+    let one_more = Storey {
+        member_count: 201,
+        ..s
+    };
+    assert_eq!(number_of(&one_more, &copies(&largest, 201)), 3);
+}
+
 #[test]
 fn order_of_members_changes_nothing() {
     let jacketed = Member {

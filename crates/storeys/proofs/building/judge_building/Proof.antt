@@ -1,6 +1,6 @@
 use lib.Dec.{eqb}
 use borrow.Author.Tests.{eqb-true, eqb-false, not-true, not-false}
-use Rattle.storeys.proofs.BuildingAnswers.{refused-at-once, counted, refused-rows, good-rows, judged-rows}
+use Rattle.storeys.proofs.BuildingAnswers.{refused, good-rows, judged-rows}
 use Rattle.storeys.proofs.Structs.{verdict, buildingjudgment}
 use mathlib.Core.List.{[], _∷_}
 use mathlib.Core.Path.{refl}
@@ -8,23 +8,15 @@ use contract.Lifetimes.{Lfts, Shares}
 use contract.Running.{tablesOf}
 use mir.Syntax.{Ty, w64, ne, tyRef, named, imm}
 use denote.Memory.{pointee}
-use borrow.Fn.Args.{vAt, bAt}
+use borrow.Fn.Args.{vAt}
 use borrow.Fn.World.{World}
 use borrow.Table.Row.{Cx, sBool}
 use borrow.Table.Rows.{sc-here}
-use Rattle.walk.proofs.Walk.{S, _⨾_, _▸_, told, at, from, set, op2, lit, cp, fld, sc, gone, old, forget, when, ret, u64}
-use Rattle.walk.proofs.Slice.{R, kept, full, here, sh-len, val-at, sh-at, sh-spares, sh-reads}
+use Rattle.walk.proofs.Walk.{S, _⨾_, _▸_, told, at, from, op2, lit, cp, sc, gone, old, forget, when, ret, u64}
+use Rattle.walk.proofs.Slice.{R, kept, full, here, val-at, sh-at, sh-spares, sh-reads}
 use Rattle.walk.proofs.Fn.{Callee, Knows, Body, Answers, entry, callee, knows, call, meets}
 use Rattle.records.proofs.Structs.{header, member, storey}
-use Rattle.storeys.proofs.building.counts_fit.Met as counts-fit-met
-use Rattle.storeys.proofs.building.counts_fit.Symbol as counts-fit-symbol
 use Rattle.storeys.proofs.Says as Says
-use Rattle.storeys.proofs.verdict.header_call_fault.Met as header-call-fault-met
-use Rattle.storeys.proofs.verdict.header_call_fault.Symbol as header-call-fault-symbol
-use Rattle.storeys.proofs.verdict.header_call_fault.Kinds as header-call-fault-kinds
-use Rattle.storeys.proofs.verdict.header_call_fault.Reads as header-call-fault-reads
-use Rattle.storeys.proofs.building.rows_fault.Met as rows-fault-met
-use Rattle.storeys.proofs.building.rows_fault.Symbol as rows-fault-symbol
 use Rattle.storeys.proofs.verdict.level_of.Met as level-of-met
 use Rattle.storeys.proofs.verdict.level_of.Symbol as level-of-symbol
 use Rattle.storeys.proofs.verdict.level_of.Kinds as level-of-kinds
@@ -42,15 +34,12 @@ use Rattle.storeys.proofs.verdict.refused_building.Reads as refused-bui
 use Rattle.storeys.proofs.building.judge_building.Code
 use Rattle.storeys.proofs.building.judge_building.Key
 use Rattle.storeys.proofs.building.judge_building.Statement.{statement}
+use Rattle.records.proofs.Says as records-Says
+use Rattle.records.proofs.rows.records_fault.Met as records-fault-met
+use Rattle.records.proofs.rows.records_fault.Symbol as records-fault-symbol
 
-abbrev the-counts-fit : Callee
-the-counts-fit = callee Says.counts-fit counts-fit-symbol.name
-
-abbrev the-header-call-fault : Callee
-the-header-call-fault = record { n = 0; ps = header-call-fault-kinds.ps; r = header-call-fault-kinds.r; asked = header-call-fault-reads.Asked; learnt = header-call-fault-reads.Learnt; name = header-call-fault-symbol.name }
-
-abbrev the-rows-fault : Callee
-the-rows-fault = callee Says.rows-fault rows-fault-symbol.name
+abbrev the-records-fault : Callee
+the-records-fault = callee records-Says.records-fault records-fault-symbol.name
 
 abbrev the-level-of : Callee
 the-level-of = record { n = 0; ps = level-of-kinds.ps; r = level-of-kinds.r; asked = level-of-reads.Asked; learnt = level-of-reads.Learnt; name = level-of-symbol.name }
@@ -65,7 +54,7 @@ abbrev the-refused-building : Callee
 the-refused-building = record { n = 0; ps = refused-building-kinds.ps; r = refused-building-kinds.r; asked = refused-building-reads.Asked; learnt = refused-building-reads.Learnt; name = refused-building-symbol.name }
 
 abbrev K : S → Type 1
-K s = Knows the-counts-fit s × Knows the-header-call-fault s × Knows the-rows-fault s × Knows the-level-of s × Knows the-storeys-verdict s × Knows the-judged-building s × Knows the-refused-building s
+K s = Knows the-records-fault s × Knows the-level-of s × Knows the-storeys-verdict s × Knows the-judged-building s × Knows the-refused-building s
 
 abbrev τ2 : Ty
 τ2 = tyRef (named 0) imm (pointee (R storey .written))
@@ -77,73 +66,42 @@ abbrev start : Lfts 2 → Shares 2 → Cx
 start κs qs = entry Says.judge-building K 0 Code.function κs qs
 
 abbrev cx1 : Lfts 2 → Shares 2 → Cx
-cx1 κs qs = at 4 (sc-here sBool) (at 5 (sc-here u64) (at 7 (sc-here u64) (start κs qs)))
+cx1 κs qs = at 4 (sc-here u64) (start κs qs)
 
 abbrev cx2 : Lfts 2 → Shares 2 → Cx
-cx2 κs qs = at 0 (kept buildingjudgment) (at 4 (sc-here sBool) (at 5 (sc-here u64) (at 6 (sc-here u64) (at 9 (kept verdict) (start κs qs)))))
-
-abbrev cx3 : Lfts 2 → Shares 2 → Cx
-cx3 κs qs = at 4 (sc-here sBool) (at 5 (sc-here u64) (at 6 (sc-here u64) (start κs qs)))
-
-abbrev cx4 : Lfts 2 → Shares 2 → Cx
-cx4 κs qs = at 4 (sc-here sBool) (at 5 (sc-here u64) (start κs qs))
+cx2 κs qs = at 0 (kept buildingjudgment) (at 4 (sc-here u64) (at 6 (kept verdict) (start κs qs)))
 
 abbrev body : Body Says.judge-building K 0 Code.function
 body κs qs bs =
-    set 7 u64 (fld 3 1 (sh-len (R member) 1) refl) gone refl (λ u. refl) (λ u. tt) ⨾
-    call the-counts-fit (λ s k. k .0) 4 (0 ∷ []) (sh-at 2 τ2 (λ x. x), (vAt 7 (λ x. x), tt)) (λ s. (sh-spares s (R storey) τ2 0, sh-reads s (R storey) τ2 0, refl, ((sc u64 .is s, refl), tt))) gone (tt, tt) refl ⨾
+    call the-records-fault (λ s k. k .0) 4 (0 ∷ 1 ∷ []) (val-at 1 (λ x. x), (sh-at 2 τ2 (λ x. x), (sh-at 3 τ3 (λ x. x), tt))) (λ s. ((here header .is s, refl), (sh-spares s (R storey) τ2 0, sh-reads s (R storey) τ2 0, refl, (sh-spares s (R member) τ3 1, sh-reads s (R member) τ3 1, refl, tt)))) gone (tt, (tt, tt)) refl ⨾
+    op2 5 sBool ne (cp 4 (sc u64)) (lit w64 0 tt) gone refl (λ u. refl) (λ u. tt) ⨾
+    when 5 (λ t. t) (sc sBool) (old sBool) refl (forget 1 (full header) ▸ call the-refused-building (λ s k. k .4) 0 [] (vAt 4 (λ x. x), tt) (λ s. ((sc u64 .is s, refl), tt)) gone tt refl ⨾ forget 4 (old u64) ▸ ret tt)
+    (from (cx1 κs qs) (call the-level-of (λ s k. k .1) 7 [] (val-at 1 (λ x. x), tt) (λ s. ((here header .is s, refl), tt)) gone tt refl ⨾
+    call the-storeys-verdict (λ s k. k .2) 6 (0 ∷ 1 ∷ []) (vAt 7 (λ x. x), (sh-at 2 τ2 (λ x. x), (sh-at 3 τ3 (λ x. x), tt))) (λ s. ((sc u64 .is s, refl), (sh-spares s (R storey) τ2 0, sh-reads s (R storey) τ2 0, refl, (sh-spares s (R member) τ3 1, sh-reads s (R member) τ3 1, refl, tt)))) gone (tt, (tt, tt)) refl ⨾
     forget 7 (old u64) ▸
-    set 7 u64 (fld 2 1 (sh-len (R storey) 0) refl) gone refl (λ u. refl) (λ u. tt) ⨾
-    call the-header-call-fault (λ s k. k .1) 5 [] (val-at 1 (λ x. x), (vAt 7 (λ x. x), (bAt 4 (λ x. x), tt))) (λ s. ((here header .is s, refl), ((sc u64 .is s, refl), ((sc sBool .is s, refl), tt)))) gone tt refl ⨾
-    from (cx1 κs qs) (forget 7 (old u64) ▸
-    op2 8 sBool ne (cp 5 (sc u64)) (lit w64 0 tt) gone refl (λ u. refl) (λ u. tt) ⨾
-    when 8 (λ t. t) (sc sBool) (old sBool) refl (forget 1 (full header) ▸ call the-refused-building (λ s k. k .6) 0 [] (vAt 5 (λ x. x), tt) (λ s. ((sc u64 .is s, refl), tt)) gone tt refl ⨾ forget 4 (old sBool) ▸ forget 5 (old u64) ▸ ret tt)
-    (from (cx4 κs qs) (call the-rows-fault (λ s k. k .2) 6 (0 ∷ 1 ∷ []) (sh-at 2 τ2 (λ x. x), (sh-at 3 τ3 (λ x. x), tt)) (λ s. (sh-spares s (R storey) τ2 0, sh-reads s (R storey) τ2 0, refl, (sh-spares s (R member) τ3 1, sh-reads s (R member) τ3 1, refl, tt))) gone (tt, (tt, tt)) refl ⨾
-    op2 8 sBool ne (cp 6 (sc u64)) (lit w64 0 tt) gone refl (λ u. refl) (λ u. tt) ⨾
-    when 8 (λ t. t) (sc sBool) (old sBool) refl (forget 1 (full header) ▸ call the-refused-building (λ s k. k .6) 0 [] (vAt 6 (λ x. x), tt) (λ s. ((sc u64 .is s, refl), tt)) gone tt refl ⨾ forget 4 (old sBool) ▸ forget 5 (old u64) ▸ forget 6 (old u64) ▸ ret tt)
-    (from (cx3 κs qs) (call the-level-of (λ s k. k .3) 10 [] (val-at 1 (λ x. x), tt) (λ s. ((here header .is s, refl), tt)) gone tt refl ⨾
-    call the-storeys-verdict (λ s k. k .4) 9 (0 ∷ 1 ∷ []) (vAt 10 (λ x. x), (sh-at 2 τ2 (λ x. x), (sh-at 3 τ3 (λ x. x), tt))) (λ s. ((sc u64 .is s, refl), (sh-spares s (R storey) τ2 0, sh-reads s (R storey) τ2 0, refl, (sh-spares s (R member) τ3 1, sh-reads s (R member) τ3 1, refl, tt)))) gone (tt, (tt, tt)) refl ⨾
-    forget 10 (old u64) ▸
-    call the-judged-building (λ s k. k .5) 0 [] (val-at 1 (λ x. x), (val-at 9 (λ x. x), tt)) (λ s. ((here header .is s, refl), ((here verdict .is s, refl), tt))) gone tt refl ⨾
+    call the-judged-building (λ s k. k .3) 0 [] (val-at 1 (λ x. x), (val-at 6 (λ x. x), tt)) (λ s. ((here header .is s, refl), ((here verdict .is s, refl), tt))) gone tt refl ⨾
     from (cx2 κs qs) (forget 1 (full header) ▸
-    forget 4 (old sBool) ▸
-    forget 5 (old u64) ▸
-    forget 6 (old u64) ▸
-    forget 9 (full verdict) ▸
-    ret tt))))))
+    forget 4 (old u64) ▸
+    forget 6 (full verdict) ▸
+    ret tt)))
 
 answers : Answers Says.judge-building K 0 Code.function body
 answers κs qs a good pre bs = (
   λ _. tt,
-  λ t. (
-    λ _. tt,
-    λ r. (
-      tt,
-      (
-        λ ne. (
-          λ _. tt,
-          λ x. ((tt, (refl, (refl, tt))), refused-at-once (a .0) (a .1 .0 .now) (a .1 .1 .0 .now) (t .1) (r .1) (t .5) (r .5) (x .1 .answer) (x .5) (eqb-false (r .1) 0 (not-true (eqb (r .1) 0) ne))),
-        ),
-        λ no. told (eqb-true (r .1) 0 (not-false (eqb (r .1) 0) no)) λ z. (
-          λ _. counted (a .0) (a .1 .0 .now) (a .1 .1 .0 .now) (t .1) (r .1) (t .5) (r .5) z,
-          λ f. (
-            tt,
-            (
-              λ ne. (
-                λ _. tt,
-                λ x. ((tt, (refl, (refl, tt))), refused-rows (a .0) (a .1 .0 .now) (a .1 .1 .0 .now) (t .1) (r .1) (t .5) (r .5) z (f .1) (f .5) (x .1 .answer) (x .5) (eqb-false (f .1) 0 (not-true (eqb (f .1) 0) ne))),
-              ),
-              λ no. told (eqb-true (f .1) 0 (not-false (eqb (f .1) 0) no)) λ y. (
-                λ _. tt,
-                λ k. (
-                  λ _. good-rows (a .0) (a .1 .0 .now) (a .1 .1 .0 .now) (t .1) (r .1) (t .5) (r .5) z (f .1) (f .5) y (k .1) (k .5),
-                  λ v. (
-                    λ _. tt,
-                    λ x. ((tt, (refl, (refl, tt))), judged-rows (a .0) (a .1 .0 .now) (a .1 .1 .0 .now) (t .1) (r .1) (t .5) (r .5) z (f .1) (f .5) y (k .1) (k .5) (v .1) (x .1 .answer) (v .5) (x .5)),
-                  ),
-                ),
-              ),
-            ),
+  λ f. (
+    tt,
+    (
+      λ ne. (
+        λ _. tt,
+        λ x. ((tt, (refl, (refl, tt))), refused (a .0) (a .1 .0 .now) (a .1 .1 .0 .now) (x .1 .answer) (f .1) (x .5) (f .5) (eqb-false (f .1) 0 (not-true (eqb (f .1) 0) ne))),
+      ),
+      λ no. told (eqb-true (f .1) 0 (not-false (eqb (f .1) 0) no)) λ y. (
+        λ _. tt,
+        λ k. (
+          λ _. good-rows (a .0) (a .1 .0 .now) (a .1 .1 .0 .now) (f .1) (f .5) y (k .1) (k .5),
+          λ v. (
+            λ _. tt,
+            λ x. ((tt, (refl, (refl, tt))), judged-rows (a .0) (a .1 .0 .now) (a .1 .1 .0 .now) (f .1) (f .5) y (k .1) (k .5) (v .1) (x .1 .answer) (v .5) (x .5)),
           ),
         ),
       ),
@@ -155,9 +113,7 @@ pub judge-building-spec : {M : Type 1} → statement M
 unfolding Code.routine tablesOf
 judge-building-spec {M} 𝓤 H 𝓜 𝓖 𝓡 = let w : World = record { M = M; 𝓤 = 𝓤; H = H; 𝓜 = 𝓜; 𝓖 = 𝓖; 𝓡 = 𝓡 } in
     meets Says.judge-building K 0 Code.function body answers w Code.env Key.name (Code.unfolded 𝓤 H 𝓜 𝓡) (
-      knows Says.counts-fit w Code.env counts-fit-symbol.name counts-fit-symbol.routine Code.calls-storeys·building·counts-fit (counts-fit-met.met 𝓤 H 𝓜 𝓖 𝓡),
-      header-call-fault-reads.known w Code.env header-call-fault-symbol.name header-call-fault-symbol.routine Code.calls-storeys·verdict·header-call-fault (header-call-fault-met.met 𝓤 H 𝓜 𝓖 𝓡),
-      knows Says.rows-fault w Code.env rows-fault-symbol.name rows-fault-symbol.routine Code.calls-storeys·building·rows-fault (rows-fault-met.met 𝓤 H 𝓜 𝓖 𝓡),
+      knows records-Says.records-fault w Code.env records-fault-symbol.name records-fault-symbol.routine Code.calls-records·rows·records-fault (records-fault-met.met 𝓤 H 𝓜 𝓖 𝓡),
       level-of-reads.known w Code.env level-of-symbol.name level-of-symbol.routine Code.calls-storeys·verdict·level-of (level-of-met.met 𝓤 H 𝓜 𝓖 𝓡),
       knows Says.storeys-verdict w Code.env storeys-verdict-symbol.name storeys-verdict-symbol.routine Code.calls-storeys·building·storeys-verdict (storeys-verdict-met.met 𝓤 H 𝓜 𝓖 𝓡),
       judged-building-reads.known w Code.env judged-building-symbol.name judged-building-symbol.routine Code.calls-storeys·verdict·judged-building (judged-building-met.met 𝓤 H 𝓜 𝓖 𝓡),

@@ -5,10 +5,10 @@ use mathlib.Core.List.{[]}
 use mathlib.Core.Path.{_≡_, refl}
 use lib.Dec.{eqb}
 use borrow.Author.Tests.{ltb-true, ltb-false}
 use Rattle.records.specs.Blank.{noMember}
-use Rattle.storeys.specs.Storey.{memberIn}
+use Rattle.records.specs.Rows.{memberIn}
 use Rattle.records.specs.First.{anyBelow}
-use Rattle.storeys.proofs.Loops.{unseen, unseen-next, seen-here, unseen-all}
+use Rattle.records.proofs.RowLoops.{unseen, unseen-next, seen-here, unseen-all}
 use contract.Lifetimes.{Lfts, Shares}
 use contract.Running.{tablesOf}
 use mir.Syntax.{w64, unsigned, mul, add, lt, eq, offset}
@@ -19,15 +19,15 @@ use borrow.Table.Rows.{sc-here}
 use Rattle.walk.proofs.Walk.{S, _⨾_, _▸_, _◂_, told, at, from, set, op2, lit, cp, fld, sc, gone, old, forget, falls, test, when, while, exits, ret, same, u64}
 use Rattle.walk.proofs.Slice.{R, kept, full, here, sh-ptr, val-at, elem-out}
 use Rattle.walk.proofs.Fn.{Callee, Knows, Body, Answers, entry, call, meets}
 use Rattle.records.proofs.Structs.{member}
-use Rattle.storeys.proofs.Says as Says
-use Rattle.storeys.proofs.row.number_of.Met as number-of-met
-use Rattle.storeys.proofs.row.number_of.Symbol as number-of-symbol
-use Rattle.storeys.proofs.row.number_of.Kinds as number-of-kinds
-use Rattle.storeys.proofs.row.number_of.Reads as number-of-reads
-use Rattle.storeys.proofs.storey.repeat_fault.Code
-use Rattle.storeys.proofs.storey.repeat_fault.Key
-use Rattle.storeys.proofs.storey.repeat_fault.Statement.{statement}
+use Rattle.records.proofs.Says as Says
+use Rattle.records.proofs.checks.number_of.Met as number-of-met
+use Rattle.records.proofs.checks.number_of.Symbol as number-of-symbol
+use Rattle.records.proofs.checks.number_of.Kinds as number-of-kinds
+use Rattle.records.proofs.checks.number_of.Reads as number-of-reads
+use Rattle.records.proofs.rows.repeat_fault.Code
+use Rattle.records.proofs.rows.repeat_fault.Key
+use Rattle.records.proofs.rows.repeat_fault.Statement.{statement}
 
 abbrev the-number-of : Callee
 the-number-of = record { n = 0; ps = number-of-kinds.ps; r = number-of-kinds.r; asked = number-of-reads.Asked; learnt = number-of-reads.Learnt; name = number-of-symbol.name }
@@ -100,4 +100,4 @@ answers κs qs a good pre bs =
 pub repeat-fault-spec : {M : Type 1} → statement M
 unfolding Code.routine tablesOf
 repeat-fault-spec {M} 𝓤 H 𝓜 𝓖 𝓡 = let w : World = record { M = M; 𝓤 = 𝓤; H = H; 𝓜 = 𝓜; 𝓖 = 𝓖; 𝓡 = 𝓡 } in
-    meets Says.repeat-fault K 0 Code.function body answers w Code.env Key.name (Code.unfolded 𝓤 H 𝓜 𝓡) (number-of-reads.known w Code.env number-of-symbol.name number-of-symbol.routine Code.calls-storeys·row·number-of (number-of-met.met 𝓤 H 𝓜 𝓖 𝓡))
+    meets Says.repeat-fault K 0 Code.function body answers w Code.env Key.name (Code.unfolded 𝓤 H 𝓜 𝓡) (number-of-reads.known w Code.env number-of-symbol.name number-of-symbol.routine Code.calls-records·checks·number-of (number-of-met.met 𝓤 H 𝓜 𝓖 𝓡))

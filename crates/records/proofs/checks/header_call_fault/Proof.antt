@@ -1,9 +1,9 @@
 use mathlib.Core.Path.{_∙_}
 use borrow.Author.Tests.{eq-eqb, ne-eqb, not-true, not-false}
 use Rattle.records.proofs.Firsts.{last-of}
 use borrow.Author.Needs.{needs}
-use Rattle.storeys.proofs.verdict.header_call_fault.Statement.{statement}
-use Rattle.storeys.proofs.verdict.header_call_fault.Tie as tie
+use Rattle.records.proofs.checks.header_call_fault.Statement.{statement}
+use Rattle.records.proofs.checks.header_call_fault.Tie as tie
 
 returns : tie.Need-returns
 returns c = simp (ne-eqb _ _ (c .if1 .taken))

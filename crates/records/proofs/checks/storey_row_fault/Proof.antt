@@ -1,9 +1,9 @@
 use mathlib.Core.Path.{sym, _∙_}
 use Prim.Native.Nat.{_-_}
-use Rattle.storeys.proofs.Rows.{two-first, two-second}
+use Rattle.records.proofs.Firsts.{two-first, two-second}
 use borrow.Author.Needs.{needs}
-use Rattle.storeys.proofs.row.storey_row_fault.Statement.{statement}
-use Rattle.storeys.proofs.row.storey_row_fault.Tie as tie
+use Rattle.records.proofs.checks.storey_row_fault.Statement.{statement}
+use Rattle.records.proofs.checks.storey_row_fault.Tie as tie
 
 storey-fault-requires : tie.Need-storey-fault-requires
 storey-fault-requires c κs = search needs

@@ -6,10 +6,10 @@ use mathlib.Core.List.{List, [], _∷_}
 use mathlib.Core.Path.{_≡_, refl}
 use lib.Dec.{eqb}
 use borrow.Author.Tests.{eqb-true, eqb-false, eq-eqb}
 use Rattle.records.specs.First.{pick, inOrder, first}
 use Rattle.records.proofs.Firsts as Firsts
 use Rattle.records.proofs.Validity.{clear}
-use Rattle.storeys.specs.Storey.{countFault}
+use Rattle.records.specs.Rows.{countFault}
 
 -- the first of two refusals is none
 chosen-clear : (t : Bool) (a later : ℕ) → eqb a 0 ≡ t → pick t later a ≡ 0 → (a ≡ 0) × (later ≡ 0)

@@ -2,10 +2,10 @@ use native.Mathlib.Omega.{arith}
 use lib.ListN.{length}
 use lib.Dec.{eqb}
 use borrow.Author.Tests.{ltb-true, ltb-false, eqb-true, eqb-false, not-true, not-false}
 use Rattle.records.specs.First.{first}
 use Rattle.records.specs.Blank.{noStorey}
-use Rattle.storeys.specs.Building.{membersBefore, storeyRowsFault}
-use Rattle.storeys.proofs.BuildingRows.{none-before, next-before, next-within, rows-none, rows-all, own-refused, members-refused, rows-next}
+use Rattle.records.specs.Rows.{membersBefore, storeyRowsFault}
+use Rattle.records.proofs.RowLoops.{none-before, next-before, next-within, rows-none, rows-all, own-refused, members-refused, rows-next}
 use Prim.Native.Nat.{ℕ, _+_, _-_, _≤_}
 use mathlib.Core.List.{[], _∷_}
 use mathlib.Core.Path.{_≡_, refl, ap}
@@ -23,27 +23,27 @@ use borrow.Table.Rows.{sc-here}
 use Rattle.walk.proofs.Walk.{S, _⨾_, _▸_, _◂_, told, _then_, at, from, set, op2, lit, cp, fld, sc, gone, old, forget, falls, test, when, while, exits, ret, same, u64}
 use Rattle.walk.proofs.Slice.{R, kept, full, here, sh-ptr, sh-len, val-at, sh-at, sh-spares, sh-reads, sh-room, copy-val, elem-out, part, slice}
 use Rattle.walk.proofs.Fn.{Callee, Knows, Body, Answers, entry, callee, knows, call, meets}
 use Rattle.records.proofs.Structs.{member, storey}
-use Rattle.storeys.proofs.row.storey_number.Met as storey-number-met
-use Rattle.storeys.proofs.row.storey_number.Symbol as storey-number-symbol
-use Rattle.storeys.proofs.row.storey_number.Kinds as storey-number-kinds
-use Rattle.storeys.proofs.row.storey_number.Reads as storey-number-reads
-use Rattle.storeys.proofs.building.storey_repeat_fault.Met as storey-repeat-fault-met
-use Rattle.storeys.proofs.building.storey_repeat_fault.Symbol as storey-repeat-fault-symbol
-use Rattle.storeys.proofs.Says as Says
-use Rattle.storeys.proofs.row.storey_row_fault.Met as storey-row-fault-met
-use Rattle.storeys.proofs.row.storey_row_fault.Symbol as storey-row-fault-symbol
-use Rattle.storeys.proofs.row.storey_row_fault.Kinds as storey-row-fault-kinds
-use Rattle.storeys.proofs.row.storey_row_fault.Reads as storey-row-fault-reads
+use Rattle.records.proofs.checks.storey_number.Met as storey-number-met
+use Rattle.records.proofs.checks.storey_number.Symbol as storey-number-symbol
+use Rattle.records.proofs.checks.storey_number.Kinds as storey-number-kinds
+use Rattle.records.proofs.checks.storey_number.Reads as storey-number-reads
+use Rattle.records.proofs.rows.storey_repeat_fault.Met as storey-repeat-fault-met
+use Rattle.records.proofs.rows.storey_repeat_fault.Symbol as storey-repeat-fault-symbol
+use Rattle.records.proofs.Says as Says
+use Rattle.records.proofs.checks.storey_row_fault.Met as storey-row-fault-met
+use Rattle.records.proofs.checks.storey_row_fault.Symbol as storey-row-fault-symbol
+use Rattle.records.proofs.checks.storey_row_fault.Kinds as storey-row-fault-kinds
+use Rattle.records.proofs.checks.storey_row_fault.Reads as storey-row-fault-reads
 use Rattle.records.proofs.numbers.count_of.Met as count-of-met
 use Rattle.records.proofs.numbers.count_of.Symbol as count-of-symbol
 use Rattle.records.proofs.numbers.count_of.Kinds as count-of-kinds
 use Rattle.records.proofs.numbers.count_of.Reads as count-of-reads
-use Rattle.storeys.proofs.storey.members_fault.Met as members-fault-met
-use Rattle.storeys.proofs.storey.members_fault.Symbol as members-fault-symbol
-use Rattle.storeys.proofs.building.rows_fault.Code
-use Rattle.storeys.proofs.building.rows_fault.Key
-use Rattle.storeys.proofs.building.rows_fault.Statement.{statement}
+use Rattle.records.proofs.rows.members_fault.Met as members-fault-met
+use Rattle.records.proofs.rows.members_fault.Symbol as members-fault-symbol
+use Rattle.records.proofs.rows.rows_fault.Code
+use Rattle.records.proofs.rows.rows_fault.Key
+use Rattle.records.proofs.rows.rows_fault.Statement.{statement}
 
 abbrev the-storey-number : Callee
 the-storey-number = record { n = 0; ps = storey-number-kinds.ps; r = storey-number-kinds.r; asked = storey-number-reads.Asked; learnt = storey-number-reads.Learnt; name = storey-number-symbol.name }
@@ -222,9 +222,9 @@ pub rows-fault-spec : {M : Type 1} → statement M
 unfolding Code.routine tablesOf
 rows-fault-spec {M} 𝓤 H 𝓜 𝓖 𝓡 = let w : World = record { M = M; 𝓤 = 𝓤; H = H; 𝓜 = 𝓜; 𝓖 = 𝓖; 𝓡 = 𝓡 } in
     meets Says.rows-fault K 0 Code.function body answers w Code.env Key.name (Code.unfolded 𝓤 H 𝓜 𝓡) (
-      storey-number-reads.known w Code.env storey-number-symbol.name storey-number-symbol.routine Code.calls-storeys·row·storey-number (storey-number-met.met 𝓤 H 𝓜 𝓖 𝓡),
-      knows Says.storey-repeat-fault w Code.env storey-repeat-fault-symbol.name storey-repeat-fault-symbol.routine Code.calls-storeys·building·storey-repeat-fault (storey-repeat-fault-met.met 𝓤 H 𝓜 𝓖 𝓡),
-      storey-row-fault-reads.known w Code.env storey-row-fault-symbol.name storey-row-fault-symbol.routine Code.calls-storeys·row·storey-row-fault (storey-row-fault-met.met 𝓤 H 𝓜 𝓖 𝓡),
+      storey-number-reads.known w Code.env storey-number-symbol.name storey-number-symbol.routine Code.calls-records·checks·storey-number (storey-number-met.met 𝓤 H 𝓜 𝓖 𝓡),
+      knows Says.storey-repeat-fault w Code.env storey-repeat-fault-symbol.name storey-repeat-fault-symbol.routine Code.calls-records·rows·storey-repeat-fault (storey-repeat-fault-met.met 𝓤 H 𝓜 𝓖 𝓡),
+      storey-row-fault-reads.known w Code.env storey-row-fault-symbol.name storey-row-fault-symbol.routine Code.calls-records·checks·storey-row-fault (storey-row-fault-met.met 𝓤 H 𝓜 𝓖 𝓡),
       count-of-reads.known w Code.env count-of-symbol.name count-of-symbol.routine Code.calls-records·numbers·count-of (count-of-met.met 𝓤 H 𝓜 𝓖 𝓡),
-      knows Says.members-fault w Code.env members-fault-symbol.name members-fault-symbol.routine Code.calls-storeys·storey·members-fault (members-fault-met.met 𝓤 H 𝓜 𝓖 𝓡),
+      knows Says.members-fault w Code.env members-fault-symbol.name members-fault-symbol.routine Code.calls-records·rows·members-fault (members-fault-met.met 𝓤 H 𝓜 𝓖 𝓡),
     )

@@ -4,10 +4,10 @@ use mathlib.Core.List.{[], _∷_}
 use mathlib.Core.Path.{_≡_, refl}
 use lib.ListN.{length}
 use borrow.Author.Tests.{ltb-true, ltb-false, eqb-true, eqb-false, not-true, not-false}
 use Rattle.records.specs.Blank.{noMember}
-use Rattle.storeys.specs.Storey.{rowFault}
+use Rattle.records.specs.Rows.{rowFault}
 use Rattle.records.specs.First.{first}
-use Rattle.storeys.proofs.Loops.{clear-none, refused-here, clear-next, clear-all}
+use Rattle.records.proofs.RowLoops.{clear-none, refused-here, clear-next, clear-all}
 use contract.Lifetimes.{Lfts, Shares}
 use contract.Running.{tablesOf}
 use mir.Syntax.{Ty, w64, unsigned, mul, add, lt, ne, offset, tyRef, named, imm}
@@ -20,21 +20,21 @@ use borrow.Table.Rows.{sc-here}
 use Rattle.walk.proofs.Walk.{S, _⨾_, _▸_, _◂_, told, _then_, at, from, set, op2, lit, cp, fld, sc, gone, old, forget, falls, test, when, while, exits, ret, same, u64}
 use Rattle.walk.proofs.Slice.{R, kept, full, here, sh-ptr, sh-len, val-at, sh-at, sh-spares, sh-reads, copy-val, elem-out}
 use Rattle.walk.proofs.Fn.{Callee, Knows, Body, Answers, entry, callee, knows, call, meets}
 use Rattle.records.proofs.Structs.{member}
-use Rattle.storeys.proofs.row.number_of.Met as number-of-met
-use Rattle.storeys.proofs.row.number_of.Symbol as number-of-symbol
-use Rattle.storeys.proofs.row.number_of.Kinds as number-of-kinds
-use Rattle.storeys.proofs.row.number_of.Reads as number-of-reads
-use Rattle.storeys.proofs.storey.repeat_fault.Met as repeat-fault-met
-use Rattle.storeys.proofs.storey.repeat_fault.Symbol as repeat-fault-symbol
-use Rattle.storeys.proofs.Says as Says
-use Rattle.storeys.proofs.row.row_fault.Met as row-fault-met
-use Rattle.storeys.proofs.row.row_fault.Symbol as row-fault-symbol
-use Rattle.storeys.proofs.row.row_fault.Kinds as row-fault-kinds
-use Rattle.storeys.proofs.row.row_fault.Reads as row-fault-reads
-use Rattle.storeys.proofs.storey.members_fault.Code
-use Rattle.storeys.proofs.storey.members_fault.Key
-use Rattle.storeys.proofs.storey.members_fault.Statement.{statement}
+use Rattle.records.proofs.checks.number_of.Met as number-of-met
+use Rattle.records.proofs.checks.number_of.Symbol as number-of-symbol
+use Rattle.records.proofs.checks.number_of.Kinds as number-of-kinds
+use Rattle.records.proofs.checks.number_of.Reads as number-of-reads
+use Rattle.records.proofs.rows.repeat_fault.Met as repeat-fault-met
+use Rattle.records.proofs.rows.repeat_fault.Symbol as repeat-fault-symbol
+use Rattle.records.proofs.Says as Says
+use Rattle.records.proofs.checks.row_fault.Met as row-fault-met
+use Rattle.records.proofs.checks.row_fault.Symbol as row-fault-symbol
+use Rattle.records.proofs.checks.row_fault.Kinds as row-fault-kinds
+use Rattle.records.proofs.checks.row_fault.Reads as row-fault-reads
+use Rattle.records.proofs.rows.members_fault.Code
+use Rattle.records.proofs.rows.members_fault.Key
+use Rattle.records.proofs.rows.members_fault.Statement.{statement}
 
 abbrev the-number-of : Callee
 the-number-of = record { n = 0; ps = number-of-kinds.ps; r = number-of-kinds.r; asked = number-of-reads.Asked; learnt = number-of-reads.Learnt; name = number-of-symbol.name }
@@ -133,7 +133,7 @@ pub members-fault-spec : {M : Type 1} → statement M
 unfolding Code.routine tablesOf
 members-fault-spec {M} 𝓤 H 𝓜 𝓖 𝓡 = let w : World = record { M = M; 𝓤 = 𝓤; H = H; 𝓜 = 𝓜; 𝓖 = 𝓖; 𝓡 = 𝓡 } in
     meets Says.members-fault K 0 Code.function body answers w Code.env Key.name (Code.unfolded 𝓤 H 𝓜 𝓡) (
-      number-of-reads.known w Code.env number-of-symbol.name number-of-symbol.routine Code.calls-storeys·row·number-of (number-of-met.met 𝓤 H 𝓜 𝓖 𝓡),
-      knows Says.repeat-fault w Code.env repeat-fault-symbol.name repeat-fault-symbol.routine Code.calls-storeys·storey·repeat-fault (repeat-fault-met.met 𝓤 H 𝓜 𝓖 𝓡),
-      row-fault-reads.known w Code.env row-fault-symbol.name row-fault-symbol.routine Code.calls-storeys·row·row-fault (row-fault-met.met 𝓤 H 𝓜 𝓖 𝓡),
+      number-of-reads.known w Code.env number-of-symbol.name number-of-symbol.routine Code.calls-records·checks·number-of (number-of-met.met 𝓤 H 𝓜 𝓖 𝓡),
+      knows Says.repeat-fault w Code.env repeat-fault-symbol.name repeat-fault-symbol.routine Code.calls-records·rows·repeat-fault (repeat-fault-met.met 𝓤 H 𝓜 𝓖 𝓡),
+      row-fault-reads.known w Code.env row-fault-symbol.name row-fault-symbol.routine Code.calls-records·checks·row-fault (row-fault-met.met 𝓤 H 𝓜 𝓖 𝓡),
     )

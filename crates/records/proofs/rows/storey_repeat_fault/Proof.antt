@@ -2,10 +2,10 @@ use native.Mathlib.Omega.{arith}
 use lib.Dec.{eqb}
 use borrow.Author.Tests.{ltb-true, ltb-false}
 use mathlib.Core.Bool.{false}
 use Rattle.records.specs.First.{anyBelow}
 use Rattle.records.specs.Blank.{noStorey}
-use Rattle.storeys.specs.Building.{storeyIn}
-use Rattle.storeys.proofs.BuildingRows.{repeat-none, repeat-next, repeat-found, repeat-all}
+use Rattle.records.specs.Rows.{storeyIn}
+use Rattle.records.proofs.RowLoops.{repeat-none, repeat-next, repeat-found, repeat-all}
 use Prim.Native.Nat.{ℕ, _+_, _-_, _≤_}
 use mathlib.Core.List.{[]}
 use mathlib.Core.Path.{_≡_, refl}
@@ -19,15 +19,15 @@ use borrow.Table.Rows.{sc-here}
 use Rattle.walk.proofs.Walk.{S, _⨾_, _▸_, _◂_, told, at, from, set, op2, lit, cp, fld, sc, gone, old, forget, falls, test, when, while, exits, ret, same, u64}
 use Rattle.walk.proofs.Slice.{R, kept, full, here, sh-ptr, val-at, elem-out}
 use Rattle.walk.proofs.Fn.{Callee, Knows, Body, Answers, entry, call, meets}
 use Rattle.records.proofs.Structs.{storey}
-use Rattle.storeys.proofs.Says as Says
-use Rattle.storeys.proofs.row.storey_number.Met as storey-number-met
-use Rattle.storeys.proofs.row.storey_number.Symbol as storey-number-symbol
-use Rattle.storeys.proofs.row.storey_number.Kinds as storey-number-kinds
-use Rattle.storeys.proofs.row.storey_number.Reads as storey-number-reads
-use Rattle.storeys.proofs.building.storey_repeat_fault.Code
-use Rattle.storeys.proofs.building.storey_repeat_fault.Key
-use Rattle.storeys.proofs.building.storey_repeat_fault.Statement.{statement}
+use Rattle.records.proofs.Says as Says
+use Rattle.records.proofs.checks.storey_number.Met as storey-number-met
+use Rattle.records.proofs.checks.storey_number.Symbol as storey-number-symbol
+use Rattle.records.proofs.checks.storey_number.Kinds as storey-number-kinds
+use Rattle.records.proofs.checks.storey_number.Reads as storey-number-reads
+use Rattle.records.proofs.rows.storey_repeat_fault.Code
+use Rattle.records.proofs.rows.storey_repeat_fault.Key
+use Rattle.records.proofs.rows.storey_repeat_fault.Statement.{statement}
 
 abbrev the-storey-number : Callee
 the-storey-number = record { n = 0; ps = storey-number-kinds.ps; r = storey-number-kinds.r; asked = storey-number-reads.Asked; learnt = storey-number-reads.Learnt; name = storey-number-symbol.name }
@@ -108,4 +108,4 @@ answers κs qs a good pre bs =
 pub storey-repeat-fault-spec : {M : Type 1} → statement M
 unfolding Code.routine tablesOf
 storey-repeat-fault-spec {M} 𝓤 H 𝓜 𝓖 𝓡 = let w : World = record { M = M; 𝓤 = 𝓤; H = H; 𝓜 = 𝓜; 𝓖 = 𝓖; 𝓡 = 𝓡 } in
-    meets Says.storey-repeat-fault K 0 Code.function body answers w Code.env Key.name (Code.unfolded 𝓤 H 𝓜 𝓡) (storey-number-reads.known w Code.env storey-number-symbol.name storey-number-symbol.routine Code.calls-storeys·row·storey-number (storey-number-met.met 𝓤 H 𝓜 𝓖 𝓡))
+    meets Says.storey-repeat-fault K 0 Code.function body answers w Code.env Key.name (Code.unfolded 𝓤 H 𝓜 𝓡) (storey-number-reads.known w Code.env storey-number-symbol.name storey-number-symbol.routine Code.calls-records·checks·storey-number (storey-number-met.met 𝓤 H 𝓜 𝓖 𝓡))

@@ -2,9 +2,9 @@ use native.Mathlib.Omega.{arith}
 use lib.ListN.{length}
 use mathlib.Core.Bool.{false}
 use borrow.Author.Tests.{ltb-true, ltb-false}
 use Rattle.records.specs.Blank.{noStorey}
-use Rattle.storeys.specs.Building.{membersBefore}
-use Rattle.storeys.proofs.BuildingRows.{left-all, left-next, too-few, fits-all}
+use Rattle.records.specs.Rows.{membersBefore}
+use Rattle.records.proofs.RowLoops.{left-all, left-next, too-few, fits-all}
 use Prim.Native.Nat.{ℕ, _+_, _-_, _≤_}
 use mathlib.Core.List.{[]}
 use mathlib.Core.Path.{_≡_, refl}
@@ -19,15 +19,15 @@ use borrow.Table.Rows.{sc-here}
 use Rattle.walk.proofs.Walk.{S, _⨾_, _▸_, _◂_, told, _then_, at, from, set, op2, lit, cp, fld, sc, gone, old, forget, falls, test, when, while, exits, ret, same, u64}
 use Rattle.walk.proofs.Slice.{R, kept, full, here, sh-ptr, sh-len, val-at, elem-out}
 use Rattle.walk.proofs.Fn.{Callee, Knows, Body, Answers, entry, call, meets}
 use Rattle.records.proofs.Structs.{storey}
-use Rattle.storeys.proofs.Says as Says
+use Rattle.records.proofs.Says as Says
 use Rattle.records.proofs.numbers.count_of.Met as count-of-met
 use Rattle.records.proofs.numbers.count_of.Symbol as count-of-symbol
 use Rattle.records.proofs.numbers.count_of.Kinds as count-of-kinds
 use Rattle.records.proofs.numbers.count_of.Reads as count-of-reads
-use Rattle.storeys.proofs.building.counts_fit.Code
-use Rattle.storeys.proofs.building.counts_fit.Key
-use Rattle.storeys.proofs.building.counts_fit.Statement.{statement}
+use Rattle.records.proofs.rows.counts_fit.Code
+use Rattle.records.proofs.rows.counts_fit.Key
+use Rattle.records.proofs.rows.counts_fit.Statement.{statement}
 
 abbrev the-count-of : Callee
 the-count-of = record { n = 0; ps = count-of-kinds.ps; r = count-of-kinds.r; asked = count-of-reads.Asked; learnt = count-of-reads.Learnt; name = count-of-symbol.name }
