@@ -20,16 +20,16 @@ use Rattle.storeys.specs.declared.BuildingFinding.{BuildingFinding}
 use Rattle.storeys.specs.declared.BuildingAnswer.{BuildingAnswer}
 use Rattle.storeys.specs.declared.BuildingAnswer.the-variants.{Judged, Refused}
 use Rattle.storeys.specs.Storey.{Rules, over, storeyRisky, storeyFinding, knowledgeFault, storeyCallFault, storeyAnswerBy}
-use Rattle.records.specs.Rows.{countFault, memberIn, rowFault, memberRowsFault, storeyIn, membersOf, recordsFault}
+use Rattle.checks.specs.Rows.{countFault, memberIn, rowFault, memberRowsFault, storeyIn, membersOf, recordsFault}
 use Rattle.records.specs.Blank.{noMember}
 use Rattle.storeys.specs.Building.{buildingRisky, buildingFinding, buildingAnswerBy, placeIn, returnedBuilding}
 use Rattle.comparison.specs.Demand3.{Survey, knowledgeOf, StoreyMembers, storeyMembersAt, storeysMembers, Accepted, overIn, riskyIn, buildingRiskyIn}
 use Rattle.comparison.proofs.Pairs.{All, all-rows, all-listed}
 use Rattle.comparison.proofs.Tests.{never}
 use Rattle.storeys.proofs.Returned.{answer-same}
-use Rattle.records.proofs.Refusals.{None, end, also, one, rest, in-order-clear, in-order-none, first-clear}
+use Rattle.checks.proofs.Refusals.{None, end, also, one, rest, in-order-clear, in-order-none, first-clear}
 use Rattle.storeys.proofs.Accepted.{known-level}
-use Rattle.records.proofs.RowLaws.{members-counted, total-counted, rows}
+use Rattle.checks.proofs.RowLaws.{members-counted, total-counted, rows}
 
 -- a storey on which the call refuses nothing
 pub record Sound (k : ℕ) (f : StoreyMembers) : Type 0 where

@@ -17,7 +17,7 @@ use Rattle.members.specs.Finding.{axial, moment, stress, hoops, mLimit, rotatio
 use Rattle.storeys.specs.declared.BuildingAnswer.{BuildingAnswer}
 use Rattle.storeys.specs.declared.BuildingAnswer.the-variants.{Judged}
 use Rattle.storeys.specs.Storey.{publishedRules, meetsWallShare, axialTotal, overShear, someOver, damaged, exceedsShare, riskyByDamage, storeyRisky, storeyFinding, storeyCallFault, storeyAnswerBy}
-use Rattle.records.specs.Rows.{rowFault, memberRowsFault, membersBefore, membersOf, countsFault, storeyRowsFault, recordsFault}
+use Rattle.checks.specs.Rows.{rowFault, memberRowsFault, membersBefore, membersOf, countsFault, storeyRowsFault, recordsFault}
 use Rattle.records.specs.Blank.{noMember}
 use Rattle.storeys.specs.Building.{riskyAt, tilted, someRisky, buildingRisky, buildingFinding, buildingAnswerBy, named}
 use Rattle.comparison.specs.Pairing.{none, pair, EveryPair}

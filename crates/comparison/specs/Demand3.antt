@@ -18,7 +18,7 @@ use Rattle.storeys.specs.declared.StoreyAnswer.the-variants.{Judged as JudgedSt
 use Rattle.storeys.specs.declared.BuildingAnswer.{BuildingAnswer}
 use Rattle.storeys.specs.declared.BuildingAnswer.the-variants.{Judged as JudgedBuilding, Refused as RefusedBuilding}
 use Rattle.storeys.specs.Storey.{Rules, publishedRules, meetsWallShare, storeyAnswerBy}
-use Rattle.records.specs.Rows.{storeyIn, membersOf}
+use Rattle.checks.specs.Rows.{storeyIn, membersOf}
 use Rattle.storeys.specs.Building.{Answers, returnedBuilding}
 use Rattle.comparison.specs.Pairing.{Pairing, EveryPair}
 

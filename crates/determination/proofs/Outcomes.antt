@@ -21,7 +21,7 @@ use Rattle.records.specs.First.{everyBelow}
 use Rattle.records.specs.Records.{headerFault}
 use Rattle.records.specs.Totals.{total}
 use Rattle.storeys.specs.Building.{}
-use Rattle.records.specs.Rows.{countsFault, recordsFault}
+use Rattle.checks.specs.Rows.{countsFault, recordsFault}
 use Rattle.report.proofs.Called.{sheet-fits}
 use Rattle.determination.specs.Answers.{blank, headerTold, membersTold, lengthBy, bytesBy, lengthTold, bytesTold}
 use Rattle.determination.specs.Determination.{inputMost, storeyRows, memberRows, text, printed}

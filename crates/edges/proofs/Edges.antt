@@ -8,9 +8,9 @@ use Rattle.members.specs.Tables.{places, moments, rotations}
 use Rattle.members.specs.Limits.{interp, blend, columnA, columnB, columnC, wallRows, wallB, mLimitAt, rotationLimitAt}
 use Rattle.members.specs.Finding.{axial, moment, stress, hoops, mLimit, rotationLimit, mDropped, isOver, findingBy, answerBy}
 use Rattle.storeys.specs.Storey.{meetsWallShare, axialTotal, overShear, someOver, damaged, exceedsShare, riskyByDamage, storeyRisky, storeyFinding, storeyCallFault, storeyAnswerBy}
-use Rattle.records.specs.Rows.{rowFault, memberRowsFault, recordsFault}
+use Rattle.checks.specs.Rows.{rowFault, memberRowsFault, recordsFault}
 use Rattle.records.specs.Blank.{noMember}
-use Rattle.records.specs.Rows.{membersBefore, membersOf, countsFault, storeyRowsFault}
+use Rattle.checks.specs.Rows.{membersBefore, membersOf, countsFault, storeyRowsFault}
 use Rattle.storeys.specs.Building.{riskyAt, tilted, someRisky, buildingRisky, buildingFinding, buildingAnswerBy}
 use Rattle.edges.specs.Edges.{EdgesMet, edges}
 

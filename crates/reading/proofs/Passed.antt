@@ -14,14 +14,14 @@ use Rattle.records.specs.Blank.{noStorey, noMember}
 use Rattle.records.specs.First.{pick, anyBelow, inOrder, first}
 use Rattle.records.specs.Totals.{total, listed}
 use Rattle.records.specs.Records.{headerFault, storeyFault, memberFault, repeated}
-use Rattle.records.specs.Rows.{storeyIn, memberIn, membersOf, countFault, countsFault, rowFault, memberRowsFault, storeyRowsFault, recordsFault}
-use Rattle.records.specs.Rows as Rows
+use Rattle.checks.specs.Rows.{storeyIn, memberIn, membersOf, countFault, countsFault, rowFault, memberRowsFault, storeyRowsFault, recordsFault}
+use Rattle.checks.specs.Rows as Rows
 use Rattle.records.specs.declared.Header.{Header}
 use Rattle.records.specs.declared.Storey.{Storey}
 use Rattle.records.specs.declared.Member.{Member}
 use Rattle.records.specs.declared.Tag.the-variants.{B, S, M}
 use Rattle.records.proofs.Firsts.{first-zero}
-use Rattle.records.proofs.Refusals.{None, end, also, one, rest, in-order-clear, in-order-none}
+use Rattle.checks.proofs.Refusals.{None, end, also, one, rest, in-order-clear, in-order-none}
 use Rattle.format.specs.Lines.{fieldsFault, headerAt}
 use Rattle.reading.specs.Survey.{lineStart, membersBefore, storey, memberStart, member, shape, unheld, headerLineFault, storeyLineFault, memberLineFault, surveyFault, firstStoreys, firstMembers, survey}
 use Rattle.reading.specs.Passed.{AcceptedPass}

@@ -3,5 +3,3 @@ pub mod Totals
 pub mod Records
 pub mod Valid
 pub mod Blank
-pub mod Rows
-pub mod RowChecks

@@ -14,7 +14,7 @@ use Rattle.members.specs.Limits.{interp, blend, columnA, columnB, columnC, wall
 use Rattle.members.specs.Finding.{axial, moment, stress, hoops, mLimit, rotationLimit, mDropped, isOver, findingBy}
 use Rattle.records.specs.Totals.{total, anyOf}
 use Rattle.storeys.specs.Storey.{meetsWallShare, axialTotal, overShear, someOver, damaged, exceedsShare, riskyByDamage, storeyRisky, storeyFinding}
-use Rattle.records.specs.Rows.{membersBefore, membersOf}
+use Rattle.checks.specs.Rows.{membersBefore, membersOf}
 use Rattle.storeys.specs.Building.{riskyAt, tilted, someRisky, buildingRisky}
 use Rattle.columns.specs.Line.{printedNumbers, line}
 use Rattle.report.specs.Sheet.{memberLine, storeyLine, buildingLine, memberLines, storeyLines, storeysLines, sheet}

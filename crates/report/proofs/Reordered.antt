@@ -13,7 +13,7 @@ use Rattle.records.specs.declared.Member.{Member}
 use Rattle.members.specs.Finding.{axialRatioD, finding, flag}
 use Rattle.records.specs.Totals.{total, anyOf}
 use Rattle.storeys.specs.Storey.{publishedRules, wallShear, meetsWallShare, axialTotal, over, shearIfOver, overShear, someOver, damaged, riskyByDamage, storeyRisky, storeyFinding}
-use Rattle.records.specs.Rows.{storeyIn, membersOf}
+use Rattle.checks.specs.Rows.{storeyIn, membersOf}
 use Rattle.storeys.specs.Building.{riskyAt, tilted, someRisky, buildingRisky}
 use Rattle.report.specs.Sheet.{memberLine, storeyLine, buildingLine, memberLines, storeyLines, storeysLines, sheet}
 

@@ -18,10 +18,10 @@ use Rattle.members.specs.declared.finding.Finding.{Finding}
 use Rattle.storeys.specs.declared.StoreyFinding.{StoreyFinding}
 use Rattle.storeys.specs.declared.StoreyAnswer.{StoreyAnswer}
 use Rattle.storeys.specs.Storey.{publishedRules, meetsWallShare, storeyFinding, knowledgeFault, storeyCallFault, storeyAnswerBy, storeyAnswer, returnedStorey, storeyReturned}
-use Rattle.records.specs.Rows.{countFault, memberIn, rowFault, memberRowsFault}
+use Rattle.checks.specs.Rows.{countFault, memberIn, rowFault, memberRowsFault}
 use Rattle.records.specs.Blank.{noMember}
 use Rattle.storeys.proofs.Returned.{storey-answer-is}
-use Rattle.records.proofs.Refusals.{None, one, rest, in-order-clear, first-clear}
+use Rattle.checks.proofs.Refusals.{None, one, rest, in-order-clear, first-clear}
 use Rattle.columns.specs.Bytes.{stamped}
 use Rattle.report.specs.Sheet.{memberColumns, storeyColumns, buildingColumns, memberLine, storeyLine, buildingLine, memberLines, storeyLines}
 use Rattle.report.specs.Printing.{findingIn}

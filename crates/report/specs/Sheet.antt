@@ -13,7 +13,7 @@ use Rattle.members.specs.Class.{code}
 use Rattle.members.specs.Finding.{finding, flag, knowledge, Returned, refused}
 use Rattle.members.specs.declared.finding.Finding.{Finding}
 use Rattle.storeys.specs.Storey.{publishedRules, meetsWallShare, storeyFinding}
-use Rattle.records.specs.Rows.{storeyIn, membersOf, recordsFault}
+use Rattle.checks.specs.Rows.{storeyIn, membersOf, recordsFault}
 use Rattle.storeys.specs.Building.{tilted, buildingRisky}
 use Rattle.storeys.specs.declared.StoreyFinding.{StoreyFinding}
 use Rattle.report.specs.declared.ReportAnswer.{ReportAnswer}

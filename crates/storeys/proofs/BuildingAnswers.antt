@@ -20,8 +20,8 @@ use Rattle.storeys.specs.declared.verdict.Verdict.{Verdict}
 use Rattle.storeys.specs.Storey.{publishedRules}
 use Rattle.storeys.specs.Building.{riskyAt, someRisky, buildingRisky, buildingFinding, buildingAnswerBy, PlaceOk, nowhere, named, Answers}
 use Rattle.storeys.specs.Verdict.{placeAt, verdictOf, verdictAnswer, GoodRows}
-use Rattle.records.specs.Rows.{recordsFault}
-use Rattle.records.proofs.RowLaws.{total-counted, rows-good}
+use Rattle.checks.specs.Rows.{recordsFault}
+use Rattle.checks.proofs.RowLaws.{total-counted, rows-good}
 use Rattle.storeys.proofs.Accepted.{known-level}
 
 -- the first of the numbers below n of which a test holds, counted from 1; 0 where there is none

@@ -24,7 +24,7 @@ use Rattle.storeys.specs.declared.StoreyAnswer.the-variants.{Judged, Ref
 use Rattle.storeys.specs.declared.row.Tally.{Tally}
 use Rattle.records.specs.Totals.{total}
 use Rattle.storeys.specs.Storey.{publishedRules, wallShear, meetsWallShare, axialTotal, over, shearIfOver, overShear, storeyRisky, riskyByDamage, storeyFinding, knowledgeFault, storeyCallFault, storeyAnswerBy, storeyAnswer, returnedStorey, storeyReturned}
-use Rattle.records.specs.Rows.{countFault, memberIn, memberRowsFault}
+use Rattle.checks.specs.Rows.{countFault, memberIn, memberRowsFault}
 use Rattle.records.specs.Blank.{noMember}
 use Rattle.storeys.specs.Tally.{tallyOf, Rows, Small, foundBy, headFault}
 use Rattle.storeys.proofs.Rows.{nd-most}

@@ -19,7 +19,7 @@ use Rattle.members.specs.Class.{isWall}
 use Rattle.members.specs.Finding.{axialRatioD, knowledge, flag}
 use Rattle.records.specs.Totals.{total, anyOf}
 use Rattle.storeys.specs.Storey.{publishedRules, wallShear, axialTotal, over, shearIfOver, overShear, someOver, damaged}
-use Rattle.records.specs.Rows.{memberIn, rowFault, memberRowsFault}
+use Rattle.checks.specs.Rows.{memberIn, rowFault, memberRowsFault}
 use Rattle.records.specs.Blank.{noMember}
 use Rattle.storeys.specs.declared.row.Tally.{Tally}
 use Rattle.storeys.specs.Tally.{weightOf, noTally, added, tallyOf, Rows, AddsUp}

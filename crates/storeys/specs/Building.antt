@@ -14,7 +14,7 @@ use Rattle.storeys.specs.declared.BuildingFinding.{BuildingFinding}
 use Rattle.storeys.specs.declared.BuildingAnswer.{BuildingAnswer}
 use Rattle.storeys.specs.declared.BuildingAnswer.the-variants.{Judged, Refused}
 use Rattle.storeys.specs.Storey.{Rules, publishedRules, storeyRisky}
-use Rattle.records.specs.Rows.{recordsFault, storeyIn, membersOf}
+use Rattle.checks.specs.Rows.{recordsFault, storeyIn, membersOf}
 
 -- storey i is Risky
 unfoldable pub riskyAt : Rules → ℕ → List Storey → List Member → ℕ → Bool

@@ -18,7 +18,7 @@ use Rattle.storeys.specs.declared.StoreyFinding.{StoreyFinding}
 use Rattle.storeys.specs.declared.StoreyAnswer.{StoreyAnswer}
 use Rattle.storeys.specs.declared.StoreyAnswer.the-variants.{Judged, Refused}
 use Rattle.records.specs.Totals.{total, anyOf}
-use Rattle.records.specs.Rows.{countFault, memberRowsFault}
+use Rattle.checks.specs.Rows.{countFault, memberRowsFault}
 
 -- what a survey is judged by: the limits of the members, and the axial ratios per member between which the allowed share falls
 pub record Rules : Type 0 where

@@ -16,8 +16,8 @@ use Rattle.storeys.specs.declared.BuildingAnswer.the-variants.{Judged}
 use Rattle.storeys.specs.declared.verdict.Verdict.{Verdict}
 use Rattle.storeys.specs.Storey.{publishedRules}
 use Rattle.storeys.specs.Building.{riskyAt, tilted}
-use Rattle.records.specs.Rows.{storeyRowsFault}
-use Rattle.records.specs.RowChecks.{Counted}
+use Rattle.checks.specs.Rows.{storeyRowsFault}
+use Rattle.checks.specs.RowChecks.{Counted}
 
 abbrev pub noVerdict : Verdict
 noVerdict = record { place = 0 }

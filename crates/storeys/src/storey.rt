@@ -17,9 +17,9 @@ use crate::row::judged_storey;
 use crate::row::meets;
 use crate::row::no_tally;
 use crate::row::refused_storey;
+use checks::members_fault;
 use records::Member;
 use records::Storey;
-use records::rows::members_fault;
 
 // The walls' V.
 fn wall_total(rows: &[Member]) -> u64
