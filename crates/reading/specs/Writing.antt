@@ -4,7 +4,7 @@ use Prim.Native.Nat.{ℕ, _+_, _-_, _<_}
 use mathlib.Core.List.{List, [], _∷_, _++_}
 use mathlib.Core.Path.{_≡_}
 use lib.ListN.{length, take, drop, getD}
-use Rattle.records.specs.Totals.{total}
+use Rattle.records.specs.Notation.{total}
 use Rattle.format.specs.Text.{lineText}
 use Rattle.records.specs.Records.{headerValues, storeyValues, memberValues, headerFault, storeyFault, memberFault}
 use Rattle.records.specs.declared.Header.{Header}

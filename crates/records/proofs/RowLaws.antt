@@ -6,9 +6,8 @@ use mathlib.Core.Path.{_≡_, refl}
 use lib.ListN.{length, drop, length-take, length-drop}
 use Rattle.records.specs.declared.Storey.{Storey}
 use Rattle.records.specs.declared.Member.{Member}
-use Rattle.records.specs.Totals.{total}
+use Rattle.records.specs.Notation.{total, first}
 use Rattle.records.specs.Rows.{storeyIn, membersBefore, membersOf, countFault, countsFault, storeyRowsFault, memberRowsFault, recordsFault}
-use Rattle.records.specs.First.{first}
 use Rattle.records.specs.Records.{headerFault, storeyFault, repeated}
 use Rattle.records.specs.declared.Header.{Header}
 use Rattle.records.proofs.Refusals.{None, one, rest, in-order-clear, first-clear, count-clear}
