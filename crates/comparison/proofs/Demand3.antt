@@ -85,7 +85,7 @@ some-storey rules a = some-listed (verdict rules (a .header .knowledge)) (storey
 tilt-carried : (a b : Survey) → a .header .tilt1 ≤ b .header .tilt1 → a .header .tilt2 ≤ b .header .tilt2 → tilted (a .header) ≡ true → tilted (b .header) ≡ true
 unfolding tilted
 tilt-carried a b h l =
-    excess-carried 25_000 (max (a .header .tilt1) (a .header .tilt2)) 25_000 (max (b .header .tilt1) (b .header .tilt2)) (le-refl 25_000) (omega (arith, h, l))
+    excess-carried _ (max (a .header .tilt1) (a .header .tilt2)) _ (max (b .header .tilt1) (b .header .tilt2)) (le-refl _) (omega (arith, h, l))
 
 module _ (rules : Rules) (good : Orderly rules) (a b : Survey) (r q : BuildingAnswer) (ra : Accepted rules a r) (rb : Accepted rules b q) (pairs : StoreyPairs a b) (worse : NowhereBetter a b pairs) where
   same-level : a .header .knowledge ≡ b .header .knowledge

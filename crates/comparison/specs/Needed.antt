@@ -4,7 +4,6 @@ use Prim.Native.Nat.{ℕ, _+_}
 use mathlib.Core.List.{List, [], _∷_, _++_, map}
 use mathlib.Core.Path.{_≡_}
 use lib.ListN.{take}
-use Rattle.records.specs.Notation.{everyBelow, first}
 use Rattle.records.specs.Records.{zeroForce}
 use Rattle.members.specs.Finding.{hoops}
 use Rattle.storeys.specs.Storey.{publishedRules}

@@ -5,13 +5,12 @@ use mathlib.Core.List.{List, [], _∷_, map}
 use mathlib.Core.Path.{_≡_}
 use lib.Dec.{eqb}
 use lib.ListN.{length, getD, take}
-use Rattle.records.specs.Notation.{pick, everyBelow, first, listed}
+use Rattle.records.specs.Notation.{pick, listed}
 use Rattle.records.specs.Records.{zeroForce}
 use Rattle.records.specs.declared.Header.{Header}
 use Rattle.records.specs.declared.Storey.{Storey}
 use Rattle.records.specs.declared.Member.{Member}
-use Rattle.members.specs.Class.{detailed}
-use Rattle.members.specs.Finding.{moment, hoops, memberReturned}
+use Rattle.members.specs.Finding.{hoops, memberReturned}
 use Rattle.storeys.specs.Storey.{publishedRules, storeyReturned}
 use Rattle.storeys.specs.Building.{buildingAnswerBy, returnedBuilding}
 

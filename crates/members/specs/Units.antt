@@ -6,7 +6,7 @@ pub use Rattle.members.specs.declared.units.{Ratio.Ratio, HoopRatio.Hoop
 abbrev pub ceiling : ℕ → ℕ → ℕ
 ceiling a b = (a + (b - 1)) / b
 
--- "capped at 999,999"
+-- n, m, v and ρ are "capped at 999,999"
 abbrev pub ratioCap : ℕ
 ratioCap = 999_999
 

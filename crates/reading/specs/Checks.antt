@@ -8,7 +8,7 @@ use Rattle.records.specs.Notation.{pick, inOrder}
 use Rattle.records.specs.Records.{storeyFault, memberFault}
 use Rattle.format.specs.Lines.{fieldsFault, headerAt, storeyAt, memberAt}
 use Rattle.reading.specs.Survey.{lineStart, membersBefore, storey, shape, headerLineFault, or-else, firstFault, storeysFault, trailing}
-use Rattle.records.specs.declared.Tag.the-variants.{B, S, M}
+use Rattle.records.specs.declared.Tag.the-variants.{S, M}
 use Rattle.reading.specs.declared.survey.HeaderLine.{HeaderLine}
 use Rattle.reading.specs.declared.survey.StoreyLine.{StoreyLine}
 use Rattle.reading.specs.declared.survey.MemberLine.{MemberLine}

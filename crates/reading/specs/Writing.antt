@@ -1,6 +1,6 @@
 -- A survey written as a file (document 01, "The survey record"; document 02, N1): the columns of a number, a line, the whole file; and
 -- which surveys can be written.
-use Prim.Native.Nat.{ℕ, _+_, _-_, _<_}
+use Prim.Native.Nat.{ℕ, _+_, _<_}
 use mathlib.Core.List.{List, [], _∷_, _++_}
 use mathlib.Core.Path.{_≡_}
 use lib.ListN.{length, take, drop, getD}

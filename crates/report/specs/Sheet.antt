@@ -1,6 +1,6 @@
 -- The printed sheet and the report call (document 01, "The printed sheet", "Refusals as returned"): any header with any rows of storeys and members, and a
 -- buffer of any length.
-use Rattle.records.specs.Notation.{ℕ, zero, suc, _+_, Bool, List, [], _∷_, _++_, leb, eqb, length, drop, pick, inOrder}
+use Rattle.records.specs.Notation.{ℕ, zero, suc, Bool, List, [], _∷_, _++_, leb, eqb, length, drop, pick, inOrder}
 use Rattle.records.specs.{declared.Header.Header, declared.Storey.Storey, declared.Member.Member, Rows.storeyIn, Rows.membersOf, Rows.recordsFault}
 use Rattle.members.specs.{declared.finding.Finding.Finding, Class.code, Finding.finding, Finding.flag, Finding.Returned, Finding.found, Finding.refused}
 use Rattle.storeys.specs.{declared.StoreyFinding.StoreyFinding, Storey.publishedRules, Storey.meetsWallShare, Storey.storeyFinding, Building.tilted, Building.buildingRisky}

@@ -11,12 +11,12 @@ use Rattle.storeys.specs.Building.{tilted}
 
 pub tilt-first : (h : Header) → 25_000 < h .tilt1 → true ≡ tilted h
 unfolding tilted
-tilt-first h l = sym (lt-ltb 25_000 (max (h .tilt1) (h .tilt2)) (omega (arith, l, le-max-left (h .tilt1) (h .tilt2))))
+tilt-first h l = sym (lt-ltb _ (max (h .tilt1) (h .tilt2)) (omega (arith, l, le-max-left (h .tilt1) (h .tilt2))))
 
-by-second : (t : Bool) (a b : ℕ) → a ≤ 25_000 → ltb 25_000 b ≡ t → t ≡ ltb 25_000 (max a b)
-by-second true a b l e = sym (lt-ltb 25_000 (max a b) (omega (arith, ltb-true 25_000 b e, le-max-right a b)))
-by-second false a b l e = sym (le-ltb 25_000 (max a b) (max-le l (ltb-false 25_000 b e)))
+by-second : (t : Bool) (most a b : ℕ) → a ≤ most → ltb most b ≡ t → t ≡ ltb most (max a b)
+by-second true most a b l e = sym (lt-ltb most (max a b) (omega (arith, ltb-true most b e, le-max-right a b)))
+by-second false most a b l e = sym (le-ltb most (max a b) (max-le l (ltb-false most b e)))
 
 pub tilt-second : (h : Header) → h .tilt1 ≤ 25_000 → ltb 25_000 (h .tilt2) ≡ tilted h
 unfolding tilted
-tilt-second h l = by-second (ltb 25_000 (h .tilt2)) (h .tilt1) (h .tilt2) l refl
+tilt-second h l = by-second _ _ (h .tilt1) (h .tilt2) l refl

@@ -3,7 +3,7 @@ use Rattle.records.specs.Notation.{ℕ, _+_, _<_, max, Bool, true, false, _||_,
 use Rattle.records.specs.{declared.Header.Header, declared.Storey.Storey, declared.Member.Member, Rows.recordsFault, Rows.storeyIn, Rows.membersOf}
 use Rattle.members.specs.Finding.{flag, Returned, found, refused}
 use Rattle.storeys.specs.Storey.{Rules, storeyRisky}
-use Rattle.storeys.specs.declared.{BuildingFinding.BuildingFinding, BuildingAnswer.BuildingAnswer, BuildingAnswer.the-variants.Judged, BuildingAnswer.the-variants.Refused}
+use Rattle.storeys.specs.declared.BuildingAnswer.{BuildingAnswer, the-variants.Judged, the-variants.Refused}
 
 -- storey i is Risky
 unfoldable pub riskyAt : Rules → ℕ → List Storey → List Member → ℕ → Bool

@@ -1,5 +1,5 @@
 -- The judgment of a storey (document 01, "Storey and building", "Refusals as returned"): any storey record with any rows of members.
-use Rattle.records.specs.Notation.{ℕ, _+_, _-_, _*_, Bool, _&&_, _||_, List, [], _∷_, leb, ltb, eqb, length, pick, inOrder, first, total, anyOf}
+use Rattle.records.specs.Notation.{ℕ, _+_, _-_, _*_, Bool, _&&_, _||_, List, [], _∷_, leb, ltb, eqb, length, pick, inOrder, total, anyOf}
 use Rattle.records.specs.{declared.Storey.Storey, declared.Member.Member, Records.storeyFault, Rows.countFault, Rows.memberRowsFault}
 use Rattle.members.specs.{declared.tables.Two.Two, declared.tables.LimitSet.LimitSet, Class.isWall, Tables.two, Tables.published}
 use Rattle.members.specs.Finding.{axialRatioD, findingBy, knowledge, flag, Returned, found, refused}
@@ -10,7 +10,7 @@ pub record Rules : Type 0 where
   pub limits : LimitSet
   pub ends : Two
 
--- the rules that document 01 publishes
+-- the rules that document 01 publishes; the ends are ten-thousandths, as n_D is
 abbrev pub publishedRules : Rules
 publishedRules = record { limits = published; ends = two 1_000 6_500 }
 
