@@ -10,7 +10,7 @@ use Rattle.records.specs.declared.Header.{Header}
 use Rattle.records.specs.declared.Storey.{Storey}
 use Rattle.records.specs.declared.Member.{Member}
 use Rattle.records.proofs.Validity.{count-most, ten-storeys}
-use Rattle.records.specs.Totals.{total}
+use Rattle.records.specs.Notation.{total}
 use Rattle.storeys.specs.Storey.{knowledgeFault, storeyCallFault}
 use Rattle.checks.specs.Rows.{countFault, storeyIn, membersBefore, membersOf, recordsFault}
 use Rattle.checks.proofs.Refusals.{end, also, one, rest, in-order-none}
