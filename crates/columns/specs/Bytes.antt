@@ -3,7 +3,7 @@ use Prim.Native.Nat.{ℕ, zero, suc, _+_, _/_, _%_}
 use mathlib.Core.List.{List, [], _∷_}
 use lib.Dec.{leb, ltb}
 use lib.ListN.{length, set}
-use Rattle.records.specs.First.{pick}
+use Rattle.records.specs.Notation.{pick}
 
 -- the bytes with others in the place of those from `at` on
 unfoldable pub stamped : List ℕ → ℕ → List ℕ → List ℕ

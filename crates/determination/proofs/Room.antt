@@ -22,7 +22,7 @@ use Rattle.report.specs.Sheet.{sheet, reportFault}
 use Rattle.report.proofs.Called.{length-sheet}
 use Rattle.determination.specs.Determination.{storeyRows, memberRows}
 use Rattle.determination.proofs.Outcomes.{storeysIn, membersIn}
-use Rattle.records.specs.Rows.{recordsFault}
+use Rattle.checks.specs.Rows.{recordsFault}
 
 abbrev Held : ℕ → ℕ → Outcome → Type 0
 Held srows mrows o = (length (storeysIn o) ≤ srows) × (length (membersIn o) ≤ mrows)

@@ -1,5 +1,3 @@
-pub mod Front
 pub mod Lines
-pub mod Packed
+pub mod Room
 pub mod Says
-pub mod Values

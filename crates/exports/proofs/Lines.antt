@@ -7,7 +7,7 @@ use mathlib.Core.Path.{_≡_, refl}
 use lib.Dec.{ltb, eqb, eqb·suc-zero}
 use lib.ListN.{length}
 use borrow.Author.Tests.{eqb-true}
-use Rattle.records.specs.First.{pick, inOrder, first}
+use Rattle.records.specs.Notation.{pick, inOrder, first}
 use Rattle.records.specs.Records.{storeyFault, repeated}
 use Rattle.records.specs.declared.Tag.the-variants.{S}
 use Rattle.format.specs.Lines.{fieldsFault, headerAt}
@@ -19,7 +19,7 @@ use Rattle.records.proofs.Validity.{count-most}
 use Rattle.reading.proofs.Accepted.{storey-held}
 use Rattle.reading.proofs.Numbers.{ten-storeys}
 use Rattle.reading.proofs.Numbered as Numbered
-use Rattle.exports.specs.Words.{readingReturned}
+use Rattle.exports.specs.Calls.{readingReturned}
 
 either : (t : Bool) (f g : Fault) (n : ℕ) → (t ≡ true → f .line ≤ n) → g .line ≤ n → pick t f g .line ≤ n
 either true f g n h k = h refl

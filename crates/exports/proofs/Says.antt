@@ -17,7 +17,8 @@ use Rattle.records.proofs.Structs.{member, storey}
 use Rattle.records.specs.Records.{headerBy, storeyBy}
 use Rattle.storeys.specs.Storey.{storeyReturned}
 use Rattle.report.specs.Sheet.{reportReturned, bufferAfter}
-use Rattle.exports.specs.Words.{readingCount, storeyCount, reportCount, ifRoom, given, outAfter, readingReturned, BuildingGiven, handed}
+use Rattle.words.specs.Words.{handed}
+use Rattle.exports.specs.Calls.{readingCount, storeyCount, reportCount, ifRoom, given, outAfter, readingReturned, BuildingGiven}
 
 abbrev pub bytes : RattleType
 bytes = rtF (fInt w8)

@@ -4,17 +4,25 @@ ghost use Prim.Native.Nat.{_≤_};
 ghost use lib.ListN.{length};
 ghost use Rattle.reading.specs.Survey.{survey};
 ghost use Rattle.reading.specs.Answer.{tells, told, storeysAfter, membersAfter};
-ghost use Rattle.exports.specs.Words.{readingCount, packed, ifRoom, given, outAfter, readingReturned};
+ghost use Rattle.words.specs.Words.{packing, packed};
+ghost use Rattle.exports.specs.Calls.{readingCount, ifRoom, given, outAfter, readingReturned};
 ghost use Rattle.columns.specs.Line.{atFront};
-use crate::words::SHORT;
-use crate::words::pack;
-use crate::words::put_words;
+use crate::SHORT;
 use reading::survey::ReadAnswer;
 use reading::survey::Reading;
 use records::Member;
 use records::Storey;
+use words::put_words;
 
 const READING_COUNT: usize = 8;
+
+// A refusal and its line in one number. On records the line is 0, and the refusal stands for both.
+fn pack(refusal: u64, line: u64) -> u64
+    requires { ⌜ (refusal ≤ 9) × (line ≤ 65_536) ⌝ }
+    ensures { λ r. ⌜ r ≡ packing refusal line ⌝ }
+{
+    refusal + 256 * line
+}
 
 // Puts the values of an accepted file: the header's six fields, the numbers of rows filled. Gives refusal and line.
 fn put_reading(out: &mut [u64], r: Reading) -> u64

@@ -2,13 +2,13 @@
 // outside every range. Each gives the refusal, 0 where there is none.
 ghost use mathlib.Core.Path.{_≡_};
 ghost use Rattle.records.specs.Records.{headerFault, storeyFault, memberFault, headerBy, storeyBy, memberBy};
-ghost use Rattle.exports.specs.Words.{handed};
-use crate::judge_calls::header_given;
-use crate::judge_calls::member_given;
-use crate::judge_calls::storey_given;
+ghost use Rattle.words.specs.Words.{handed};
 use records::ranges::header_fault;
 use records::ranges::member_fault;
 use records::ranges::storey_fault;
+use words::given::header_given;
+use words::given::member_given;
+use words::given::storey_given;
 
 #[no_mangle]
 pub extern "C" fn llunareth_header_fault(values: &[u64]) -> u64

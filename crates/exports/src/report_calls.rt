@@ -3,36 +3,19 @@ ghost use mathlib.Core.Path.{_≡_};
 ghost use lib.ListN.{length};
 ghost use Rattle.records.specs.Records.{headerBy};
 ghost use Rattle.columns.specs.Line.{atFront, putLength};
-ghost use Rattle.report.specs.Sheet.{returnedReport, reportReturned, bufferAfter};
+ghost use Rattle.report.specs.Sheet.{reportReturned, bufferAfter};
 ghost use Rattle.determination.specs.Determination.{printed};
-ghost use Rattle.exports.specs.Words.{handed, reportCount, packed, ifRoom, given, outAfter};
-use crate::judge_calls::header_given;
-use crate::words::SHORT;
-use crate::words::put_words;
+ghost use Rattle.words.specs.Words.{handed};
+ghost use Rattle.exports.specs.Calls.{reportCount, ifRoom, given, outAfter};
+use crate::SHORT;
 use determination::determine;
 use records::Member;
 use records::Storey;
-use report::ReportAnswer;
-use report::ReportJudgment;
 use report::sheet::write_report;
+use words::answers::put_report;
+use words::given::header_given;
 
 const REPORT_COUNT: usize = 1;
-
-// Puts the sheet's length. Gives the refusal.
-fn put_report(out: &mut [u64], r: ReportJudgment) -> u64
-    ensures { λ n. ⌜ n ≡ packed (returnedReport (r .answer)) ⌝ }
-    ensures { λ _. ⌜ now (out .exit) ≡ atFront (returnedReport (r .answer) .values) (now (out .entry)) ⌝ }
-{
-    let a = r.answer;
-    match a {
-        ReportAnswer::Written(n) => {
-            let values = [n as u64];
-            put_words(out, &values);
-            0
-        }
-        ReportAnswer::Refused(n) => n,
-    }
-}
 
 // The report of a building, given as for its judgment: the sheet from the front of the bytes.
 #[no_mangle]

@@ -1,6 +1,6 @@
 // The version of the calls.
 ghost use mathlib.Core.Path.{_≡_};
-ghost use Rattle.exports.specs.Words.{version};
+ghost use Rattle.exports.specs.Calls.{version};
 
 // The form of the calls: a change of one raises it.
 const VERSION: u64 = 2;

@@ -11,19 +11,18 @@ use lib.ListN.{length, take, drop, getD, length-append, length-drop, List·getD-
 use lib.Seq.{take-all, take-append-le, drop-append-le, drop-append-add}
 use borrow.Author.Tests.{eqb-true, eq-eqb}
 use Rattle.records.specs.Blank.{noStorey, noMember}
-use Rattle.records.specs.First.{pick, anyBelow, inOrder, first}
-use Rattle.records.specs.Totals.{total, listed}
+use Rattle.records.specs.Notation.{pick, anyBelow, inOrder, first, total, listed}
 use Rattle.records.specs.Records.{headerFault, storeyFault, memberFault, repeated}
-use Rattle.records.specs.Rows.{storeyIn, memberIn, membersOf, countFault, countsFault, rowFault, memberRowsFault, storeyRowsFault, recordsFault}
-use Rattle.records.specs.Rows as Rows
+use Rattle.checks.specs.Rows.{storeyIn, memberIn, membersOf, countFault, countsFault, rowFault, memberRowsFault, storeyRowsFault, recordsFault}
+use Rattle.checks.specs.Rows as Rows
 use Rattle.records.specs.declared.Header.{Header}
 use Rattle.records.specs.declared.Storey.{Storey}
 use Rattle.records.specs.declared.Member.{Member}
 use Rattle.records.specs.declared.Tag.the-variants.{B, S, M}
 use Rattle.records.proofs.Firsts.{first-zero}
-use Rattle.records.proofs.Refusals.{None, end, also, one, rest, in-order-clear, in-order-none}
+use Rattle.checks.proofs.Refusals.{None, end, also, one, rest, in-order-clear, in-order-none}
 use Rattle.format.specs.Lines.{fieldsFault, headerAt}
-use Rattle.reading.specs.Survey.{lineStart, membersBefore, storey, memberStart, member, shape, unheld, headerLineFault, storeyLineFault, memberLineFault, surveyFault, firstStoreys, firstMembers, survey}
+use Rattle.reading.specs.Survey.{lineStart, membersBefore, storey, memberStart, member, shape, unheld, headerLineFault, storeyLineFault, memberLineFault, surveyFault, firstMembers, survey}
 use Rattle.reading.specs.Passed.{AcceptedPass}
 use Rattle.reading.proofs.Accepted.{header-line, storey-line, member-line}
 use Rattle.reading.proofs.Numbers.{length-listed, length-members}
@@ -88,7 +87,7 @@ module _ (s : List ℕ) (srows mrows : ℕ) (z : surveyFault s srows mrows .numb
   n = headerAt s 0 .count
 
   abbrev ss : List Storey
-  ss = firstStoreys s n
+  ss = listed (storey s) n
 
   abbrev ms : List Member
   ms = firstMembers s n

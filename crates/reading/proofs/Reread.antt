@@ -9,11 +9,10 @@ use lib.Dec.{eqb}
 use lib.ListN.{length, take, drop, getD, length-append, length-drop}
 use lib.Seq.{drop-cons, drop-drop, drop-at, take-suc, take-add, take-length, drop-length, length-take-le, getD-take, getD-drop}
 use borrow.Author.Tests.{ne-eqb, lt-ltb, le-ltb, eq-eqb}
-use Rattle.records.specs.First.{anyBelow, inOrder}
+use Rattle.records.specs.Notation.{anyBelow, inOrder, listed, total}
 use Rattle.records.specs.Records.{headerValues, storeyValues, memberValues, storeyFault, memberFault, repeated}
 use Rattle.format.specs.Lines.{headerAt, storeyAt}
-use Rattle.reading.specs.Survey.{lineStart, lineNumber, membersBefore, storey, memberStart, member, shape, unheld, headerLineFault, storeyLineFault, memberLineFault, noFault, at-line, firstFault, membersFault, storeysFault, surveyFault, firstStoreys, firstMembers, accepted, survey}
-use Rattle.records.specs.Totals.{listed, total}
+use Rattle.reading.specs.Survey.{lineStart, lineNumber, membersBefore, storey, memberStart, member, shape, unheld, headerLineFault, storeyLineFault, memberLineFault, noFault, at-line, firstFault, membersFault, storeysFault, surveyFault, firstMembers, accepted, survey}
 use Rattle.format.specs.Text.{lineText}
 use Rattle.reading.specs.Writing.{membersText, storeysText, fileText, memberCount, before, Sound}
 use Rattle.records.specs.declared.Header.{Header}
@@ -211,7 +210,7 @@ module _ (s : List ℕ) (h : Header) (ss : List Storey) (ms : List Member) (d : 
         rw (header-none, count-is, le-ltb (lineStart (length ss) (membersBefore s (length ss))) (length s) nothing-after, eq-eqb _ _ k)
 
     -- ---- what it holds
-    storeys-are : firstStoreys s (length ss) ≡ ss
+    storeys-are : listed (storey s) (length ss) ≡ ss
     storeys-are = listed-take (storey s) ss d (length ss) (le-refl _) storey-is ∙ take-length ss
 
     members-are : (i : ℕ) → i ≤ length ss → firstMembers s i ≡ take (before ss i) ms
@@ -229,7 +228,7 @@ module _ (s : List ℕ) (h : Header) (ss : List Storey) (ms : List Member) (d : 
     read-is : survey s srows mrows ≡ accepted h ss ms
     unfolding survey
     read-is =
-        let p : firstStoreys s (headerAt s 0 .count) ≡ ss = rw count-is storeys-are in
+        let p : listed (storey s) (headerAt s 0 .count) ≡ ss = rw count-is storeys-are in
         let q : firstMembers s (headerAt s 0 .count) ≡ ms = rw count-is all-members in
         rw (eq-eqb _ _ file-none, p, q, ← header-is .1)
 

@@ -5,7 +5,7 @@ use mathlib.Core.Path.{_≡_}
 use Rattle.records.specs.declared.Header.{Header}
 use Rattle.records.specs.declared.Storey.{Storey}
 use Rattle.records.specs.declared.Member.{Member}
-use Rattle.records.specs.Rows.{recordsFault}
+use Rattle.checks.specs.Rows.{recordsFault}
 use Rattle.reading.specs.Survey.{accepted, survey}
 
 -- of every file, whatever rows it is read into

@@ -1,10 +1,10 @@
 -- A survey written as a file (document 01, "The survey record"; document 02, N1): the columns of a number, a line, the whole file; and
 -- which surveys can be written.
-use Prim.Native.Nat.{ℕ, _+_, _-_, _<_}
+use Prim.Native.Nat.{ℕ, _+_, _<_}
 use mathlib.Core.List.{List, [], _∷_, _++_}
 use mathlib.Core.Path.{_≡_}
 use lib.ListN.{length, take, drop, getD}
-use Rattle.records.specs.Totals.{total}
+use Rattle.records.specs.Notation.{total}
 use Rattle.format.specs.Text.{lineText}
 use Rattle.records.specs.Records.{headerValues, storeyValues, memberValues, headerFault, storeyFault, memberFault}
 use Rattle.records.specs.declared.Header.{Header}

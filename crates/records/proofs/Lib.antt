@@ -3,7 +3,3 @@ pub mod Firsts
 pub mod Allowing
 pub mod Validity
 pub mod Structs
-pub mod Refusals
-pub mod RowLaws
-pub mod RowLoops
-pub mod Says

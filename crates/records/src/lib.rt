@@ -1,10 +1,8 @@
 // The records of a survey, shared by every layer, and what makes one good. Every field is a number, in the unit that document 01 gives it.
 
-pub mod checks;
 pub mod first;
 pub mod numbers;
 pub mod ranges;
-pub mod rows;
 
 // What stands for a force of 0 in N_D and N_K.
 pub const ZERO_FORCE: u64 = 20_000_000;

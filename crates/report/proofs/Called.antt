@@ -13,13 +13,13 @@ use Rattle.records.specs.declared.Member.{Member}
 use Rattle.records.proofs.Firsts.{last-of}
 use Rattle.records.proofs.Validity.{clear}
 use Rattle.storeys.specs.Storey.{publishedRules}
-use Rattle.records.specs.Rows.{storeyIn, membersBefore, membersOf, recordsFault}
-use Rattle.storeys.specs.Building.{tilted, buildingRisky, buildingFinding, buildingAnswerBy, placeIn, Answers}
+use Rattle.checks.specs.Rows.{storeyIn, membersBefore, membersOf, recordsFault}
+use Rattle.storeys.specs.Building.{tilted, buildingRisky, buildingAnswerBy, placeIn, Answers}
 use Rattle.storeys.specs.declared.BuildingFinding.{BuildingFinding}
 use Rattle.storeys.specs.declared.BuildingAnswer.{BuildingAnswer}
 use Rattle.storeys.specs.declared.BuildingAnswer.the-variants as building-answer
 use Rattle.storeys.proofs.Returned.{answer-same}
-use Rattle.records.proofs.Refusals.{None, one, rest, in-order-clear}
+use Rattle.checks.proofs.Refusals.{None, one, rest, in-order-clear}
 use Rattle.report.specs.declared.ReportAnswer.{ReportAnswer}
 use Rattle.report.specs.declared.ReportAnswer.the-variants.{Written, Refused}
 use Rattle.columns.specs.Bytes.{stamped}
@@ -28,7 +28,7 @@ use Rattle.report.specs.Printing.{lineOf, sizeOf, Few, faultBy}
 use Rattle.columns.proofs.Stamps.{stamped-both, stamped-front}
 use Rattle.report.proofs.Rows.{length-building-line, length-storey-lines}
 use Rattle.report.proofs.Survey.{storeys-most, members-most, before-end, part-length}
-use Rattle.records.proofs.RowLoops.{none-before}
+use Rattle.checks.proofs.RowLoops.{none-before}
 
 -- ---- the sheet's length: 86 bytes for each member, 74 for each storey, 26 for the building
 module _ (h : Header) (ss : List Storey) (ms : List Member) (none : recordsFault h ss ms ≡ 0) where
@@ -74,7 +74,7 @@ line-judged : (b : BuildingAnswer) (f : BuildingFinding) → b ≡ building-answ
 line-judged b f e = rw e
 
 module _ (h : Header) (ss : List Storey) (ms : List Member) (b : BuildingAnswer) (says : Answers publishedRules h ss ms b) where
-  judged : eqb (recordsFault h ss ms) 0 ≡ true → b ≡ building-answer.Judged (buildingFinding publishedRules h ss ms (placeIn b))
+  judged : eqb (recordsFault h ss ms) 0 ≡ true → b ≡ building-answer.Judged (record { tilted = tilted h; risky = buildingRisky publishedRules h ss ms; place = placeIn b })
   unfolding buildingAnswerBy
   judged e = answer-same publishedRules h ss ms b says ∙ rw e
 
@@ -102,7 +102,6 @@ module _ (h : Header) (ss : List Storey) (ms : List Member) (b : BuildingAnswer)
   fault-is z room e = e ∙ fault-by (eqb (recordsFault h ss ms) 0) room refl
 
   pub line-is : recordsFault h ss ms ≡ 0 → lineOf b ≡ buildingLine (tilted h) (buildingRisky publishedRules h ss ms)
-  unfolding buildingFinding
   line-is none = line-judged b _ (judged (eq-eqb _ _ none))
 
 -- ---- a refusal

@@ -15,7 +15,7 @@ use borrow.Kind.MutSlice.{pMutS}
 use borrow.Table.Referent.{rtF, fInt}
 use Rattle.members.specs.Finding.{knowledge}
 use Rattle.storeys.specs.Storey.{storeyCallFault}
-use Rattle.records.specs.Rows.{memberRowsFault, recordsFault}
+use Rattle.checks.specs.Rows.{memberRowsFault, recordsFault}
 use Rattle.walk.proofs.Fn.{Plain}
 use Rattle.walk.proofs.Slice.{R, taken, made}
 use Rattle.records.proofs.Structs.{header, member, storey}

@@ -10,13 +10,13 @@ use Rattle.records.specs.declared.Header.{Header}
 use Rattle.records.specs.declared.Storey.{Storey}
 use Rattle.records.specs.declared.Member.{Member}
 use Rattle.records.proofs.Validity.{count-most, ten-storeys}
-use Rattle.records.specs.Totals.{total}
+use Rattle.records.specs.Notation.{total}
 use Rattle.storeys.specs.Storey.{knowledgeFault, storeyCallFault}
-use Rattle.records.specs.Rows.{countFault, storeyIn, membersBefore, membersOf, recordsFault}
-use Rattle.records.proofs.Refusals.{end, also, one, rest, in-order-none}
-use Rattle.records.proofs.RowLaws.{members-counted, rows, total-counted, storeys-counted, before-all, header-good}
+use Rattle.checks.specs.Rows.{countFault, storeyIn, membersBefore, membersOf, recordsFault}
+use Rattle.checks.proofs.Refusals.{end, also, one, rest, in-order-none}
+use Rattle.checks.proofs.RowLaws.{members-counted, rows, total-counted, storeys-counted, before-all, header-good}
 use Rattle.storeys.proofs.Accepted.{known-level}
-use Rattle.records.proofs.RowLoops.{next-within, part-is}
+use Rattle.checks.proofs.RowLoops.{next-within, part-is}
 use Rattle.columns.specs.Bytes.{stamped}
 use Rattle.report.specs.Sheet.{storeyLines, storeysLines}
 use Rattle.columns.proofs.Stamps.{stamped-none, stamped-both}

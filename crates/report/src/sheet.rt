@@ -5,7 +5,7 @@ ghost use Prim.Native.Nat.{_+_, _*_, _≤_};
 ghost use lib.ListN.{length};
 ghost use Rattle.members.specs.Finding.{knowledge};
 ghost use Rattle.storeys.specs.Storey.{storeyCallFault};
-ghost use Rattle.records.specs.Rows.{memberRowsFault, recordsFault};
+ghost use Rattle.checks.specs.Rows.{memberRowsFault, recordsFault};
 ghost use Rattle.columns.specs.Bytes.{stamped};
 ghost use Rattle.report.specs.Sheet.{memberLines, storeyLines, storeysLines, returnedReport, reportReturned, bufferAfter};
 use crate::ReportJudgment;

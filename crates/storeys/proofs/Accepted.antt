@@ -4,7 +4,7 @@ use native.Mathlib.Omega.{arith}
 use mathlib.Core.Bool.{true}
 use mathlib.Core.List.{List}
 use mathlib.Core.Path.{_≡_}
-use Rattle.records.specs.First.{everyBelow}
+use Rattle.records.specs.Notation.{everyBelow}
 use Rattle.records.specs.Records.{inRange, headerValues, headerFault}
 use Rattle.records.specs.declared.Header.{Header}
 use Rattle.records.specs.declared.Storey.{Storey}
@@ -13,9 +13,9 @@ use Rattle.records.specs.declared.Tag.the-variants.{B}
 use Rattle.records.proofs.Below.{every-at}
 use Rattle.records.proofs.Validity.{clear}
 use Rattle.members.specs.Finding.{knowledge}
-use Rattle.records.proofs.Refusals.{one}
-use Rattle.records.specs.Rows.{recordsFault}
-use Rattle.records.proofs.RowLaws.{header-good}
+use Rattle.checks.proofs.Refusals.{one}
+use Rattle.checks.specs.Rows.{recordsFault}
+use Rattle.checks.proofs.RowLaws.{header-good}
 
 -- k is one of the two levels
 pub header-known : (h : Header) → headerFault h ≡ 0 → knowledge (h .knowledge) ≡ true

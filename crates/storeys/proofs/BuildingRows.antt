@@ -5,7 +5,7 @@ use mathlib.Core.Bool.{true}
 use mathlib.Core.List.{List, [], _∷_}
 use mathlib.Core.Path.{_≡_, refl, ap, sym, _∙_}
 use lib.ListN.{length, take, drop}
-use Rattle.records.specs.First.{first}
+use Rattle.records.specs.Notation.{first}
 use Rattle.records.specs.Records.{storeyFault, repeated}
 use Rattle.records.specs.declared.Storey.{Storey}
 use Rattle.records.specs.declared.Member.{Member}
@@ -15,13 +15,13 @@ use Rattle.members.specs.Finding.{knowledge}
 use Rattle.storeys.specs.declared.StoreyFinding.{StoreyFinding}
 use Rattle.storeys.specs.declared.verdict.Verdict.{Verdict}
 use Rattle.storeys.specs.Storey.{publishedRules, storeyFinding}
-use Rattle.records.specs.Rows.{memberRowsFault, storeyIn, membersBefore, membersOf, storeyRowsFault}
+use Rattle.checks.specs.Rows.{memberRowsFault, storeyIn, membersBefore, membersOf, storeyRowsFault}
 use Rattle.storeys.specs.Tally.{Rows}
 use Rattle.storeys.specs.Building.{riskyAt}
 use Rattle.storeys.specs.Verdict.{noVerdict, notedBy, placeAt, verdictOf, GoodRows}
-use Rattle.records.proofs.Refusals.{None, one, rest, in-order-clear, first-clear}
-use Rattle.records.proofs.RowLaws.{members-counted}
-use Rattle.records.proofs.RowLoops.{part-is}
+use Rattle.checks.proofs.Refusals.{None, one, rest, in-order-clear, first-clear}
+use Rattle.checks.proofs.RowLaws.{members-counted}
+use Rattle.checks.proofs.RowLoops.{part-is}
 
 -- ---- the verdict
 module _ (k : ℕ) (ss : List Storey) (ms : List Member) where

@@ -6,10 +6,10 @@ use mathlib.Core.Path.{_≡_}
 use lib.ListN.{length}
 use Rattle.records.specs.Blank.{noMember}
 use Rattle.records.specs.Records.{storeyFault}
-use Rattle.records.specs.Rows.{memberIn, countFault, memberRowsFault}
+use Rattle.checks.specs.Rows.{memberIn, countFault, memberRowsFault}
 use Rattle.records.specs.declared.Storey.{Storey}
 use Rattle.records.specs.declared.Member.{Member}
-use Rattle.records.proofs.Refusals.{None, one, rest, in-order-clear, count-clear}
+use Rattle.checks.proofs.Refusals.{None, one, rest, in-order-clear, count-clear}
 use Rattle.records.proofs.Validity.{count-most}
 use Rattle.storeys.specs.Storey.{Rules, over, shearIfOver, overShear, knowledgeFault, storeyCallFault}
 use Rattle.storeys.specs.Shears.{ShearBounded, NeverReached}

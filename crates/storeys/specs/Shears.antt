@@ -4,7 +4,7 @@ use mathlib.Core.Bool.{Bool}
 use mathlib.Core.List.{List}
 use mathlib.Core.Path.{_≡_}
 use lib.ListN.{length}
-use Rattle.records.specs.Rows.{memberRowsFault}
+use Rattle.checks.specs.Rows.{memberRowsFault}
 use Rattle.records.specs.declared.Storey.{Storey}
 use Rattle.records.specs.declared.Member.{Member}
 use Rattle.storeys.specs.Storey.{Rules, overShear, storeyCallFault}

@@ -5,7 +5,7 @@ use mathlib.Core.List.{List, [], _∷_}
 use mathlib.Core.Path.{_≡_}
 use lib.Dec.{leb, ltb, eqb}
 use lib.ListN.{length}
-use Rattle.records.specs.First.{pick, inOrder}
+use Rattle.records.specs.Notation.{pick, inOrder}
 use Rattle.records.specs.Records.{storeyFault, memberFault}
 use Rattle.records.specs.declared.Storey.{Storey}
 use Rattle.records.specs.declared.Member.{Member}
@@ -14,7 +14,7 @@ use Rattle.members.specs.Finding.{axialRatioD, flag, knowledge}
 use Rattle.storeys.specs.declared.StoreyFinding.{StoreyFinding}
 use Rattle.storeys.specs.declared.row.Tally.{Tally}
 use Rattle.storeys.specs.Storey.{publishedRules, axialTotal, over, overShear, someOver, damaged, exceedsShare, knowledgeFault}
-use Rattle.records.specs.Rows.{countFault, memberRowsFault}
+use Rattle.checks.specs.Rows.{countFault, memberRowsFault}
 
 -- what a member with damage of a kind adds: 20, 28, 35, 140
 abbrev pub weightOf : ℕ → ℕ

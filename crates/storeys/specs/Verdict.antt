@@ -5,7 +5,7 @@ use mathlib.Core.List.{List}
 use mathlib.Core.Path.{_≡_}
 use lib.Dec.{ltb, eqb}
 use lib.ListN.{length}
-use Rattle.records.specs.First.{pick, first}
+use Rattle.records.specs.Notation.{pick, first}
 use Rattle.records.specs.declared.Header.{Header}
 use Rattle.records.specs.declared.Storey.{Storey}
 use Rattle.records.specs.declared.Member.{Member}
@@ -16,8 +16,8 @@ use Rattle.storeys.specs.declared.BuildingAnswer.the-variants.{Judged}
 use Rattle.storeys.specs.declared.verdict.Verdict.{Verdict}
 use Rattle.storeys.specs.Storey.{publishedRules}
 use Rattle.storeys.specs.Building.{riskyAt, tilted}
-use Rattle.records.specs.Rows.{storeyRowsFault}
-use Rattle.records.specs.RowChecks.{Counted}
+use Rattle.checks.specs.Rows.{storeyRowsFault}
+use Rattle.checks.specs.RowChecks.{Counted}
 
 abbrev pub noVerdict : Verdict
 noVerdict = record { place = 0 }

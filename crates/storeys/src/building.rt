@@ -12,11 +12,11 @@ use crate::verdict::level_of;
 use crate::verdict::no_verdict;
 use crate::verdict::noted;
 use crate::verdict::refused_building;
+use checks::records_fault;
 use records::Header;
 use records::Member;
 use records::Storey;
 use records::numbers::count_of;
-use records::rows::records_fault;
 
 // What is found of good storeys, k being the knowledge level.
 fn storeys_verdict(k: u64, storeys: &[Storey], members: &[Member]) -> Verdict

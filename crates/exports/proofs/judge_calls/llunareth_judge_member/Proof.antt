@@ -2,8 +2,9 @@ use mathlib.Core.Path.{ap, _∙_}
 use Rattle.records.specs.Records.{memberBy}
 use Rattle.members.specs.Finding.{Returned, memberReturned}
 use Rattle.columns.specs.Line.{atFront}
-use Rattle.exports.specs.Words.{handed, memberCount, packed}
-use Rattle.exports.proofs.Packed.{put, not-put}
+use Rattle.words.specs.Words.{handed, packed}
+use Rattle.exports.specs.Calls.{memberCount}
+use Rattle.exports.proofs.Room.{put, not-put}
 use borrow.Author.Needs.{needs}
 use Rattle.exports.proofs.judge_calls.llunareth_judge_member.Statement.{statement}
 use Rattle.exports.proofs.judge_calls.llunareth_judge_member.Tie as tie

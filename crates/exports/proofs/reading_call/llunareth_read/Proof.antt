@@ -22,9 +22,10 @@ use Rattle.reading.proofs.Structs.{reading}
 use Rattle.members.specs.Finding.{Returned}
 use Rattle.reading.specs.Survey.{Outcome, survey}
 use Rattle.reading.specs.Answer.{told as toldOf, storeysAfter, membersAfter}
-use Rattle.exports.specs.Words.{readingCount, packed, readingReturned}
+use Rattle.words.specs.Words.{packed}
+use Rattle.exports.specs.Calls.{readingCount, readingReturned}
 use Rattle.exports.proofs.Lines.{refusal-most, line-most}
-use Rattle.exports.proofs.Packed.{with-room, no-room, put, not-put}
+use Rattle.exports.proofs.Room.{with-room, no-room, put, not-put}
 use Rattle.columns.specs.Line.{atFront}
 use Rattle.exports.proofs.Says as Says
 use Rattle.exports.proofs.Says.{bytes, words}

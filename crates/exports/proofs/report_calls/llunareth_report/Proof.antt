@@ -23,22 +23,23 @@ use Rattle.records.proofs.Structs.{header, member, storey}
 use Rattle.members.specs.Finding.{Returned}
 use Rattle.report.specs.Sheet.{reportReturned, bufferAfter}
 use Rattle.records.specs.Records.{headerBy}
-use Rattle.exports.specs.Words.{handed, reportCount, packed}
-use Rattle.exports.proofs.Packed.{with-room, no-room, put, not-put}
+use Rattle.words.specs.Words.{handed, packed}
+use Rattle.exports.specs.Calls.{reportCount}
+use Rattle.exports.proofs.Room.{with-room, no-room, put, not-put}
 use Rattle.columns.specs.Line.{atFront}
 use Rattle.exports.proofs.Says as Says
 use Rattle.exports.proofs.Says.{bytes, words}
-use Rattle.exports.proofs.judge_calls.header_given.Met as header-given-met
-use Rattle.exports.proofs.judge_calls.header_given.Symbol as header-given-symbol
-use Rattle.exports.proofs.judge_calls.header_given.Kinds as header-given-kinds
-use Rattle.exports.proofs.judge_calls.header_given.Reads as header-given-reads
+use Rattle.words.proofs.given.header_given.Met as header-given-met
+use Rattle.words.proofs.given.header_given.Symbol as header-given-symbol
+use Rattle.words.proofs.given.header_given.Kinds as header-given-kinds
+use Rattle.words.proofs.given.header_given.Reads as header-given-reads
 use Rattle.report.proofs.sheet.write_report.Met as write-report-met
 use Rattle.report.proofs.sheet.write_report.Symbol as write-report-symbol
 use Rattle.report.proofs.Says as report-Says
-use Rattle.exports.proofs.report_calls.put_report.Met as put-report-met
-use Rattle.exports.proofs.report_calls.put_report.Symbol as put-report-symbol
-use Rattle.exports.proofs.report_calls.put_report.Kinds as put-report-kinds
-use Rattle.exports.proofs.report_calls.put_report.Reads as put-report-reads
+use Rattle.words.proofs.answers.put_report.Met as put-report-met
+use Rattle.words.proofs.answers.put_report.Symbol as put-report-symbol
+use Rattle.words.proofs.answers.put_report.Kinds as put-report-kinds
+use Rattle.words.proofs.answers.put_report.Reads as put-report-reads
 use Rattle.exports.proofs.report_calls.llunareth_report.Code
 use Rattle.exports.proofs.report_calls.llunareth_report.Key
 use Rattle.exports.proofs.report_calls.llunareth_report.Statement.{statement}
@@ -161,7 +162,7 @@ pub llunareth-report-spec : {M : Type 1} → statement M
 unfolding Code.routine tablesOf
 llunareth-report-spec {M} 𝓤 H 𝓜 𝓖 𝓡 = let w : World = record { M = M; 𝓤 = 𝓤; H = H; 𝓜 = 𝓜; 𝓖 = 𝓖; 𝓡 = 𝓡 } in
     meets Says.llunareth-report K 2 Code.function body answers w Code.env Key.name (Code.unfolded 𝓤 H 𝓜 𝓡) (
-      header-given-reads.known w Code.env header-given-symbol.name header-given-symbol.routine Code.calls-exports·judge-calls·header-given (header-given-met.met 𝓤 H 𝓜 𝓖 𝓡),
+      header-given-reads.known w Code.env header-given-symbol.name header-given-symbol.routine Code.calls-words·given·header-given (header-given-met.met 𝓤 H 𝓜 𝓖 𝓡),
       knows report-Says.write-report w Code.env write-report-symbol.name write-report-symbol.routine Code.calls-report·sheet·write-report (write-report-met.met 𝓤 H 𝓜 𝓖 𝓡),
-      put-report-reads.known w Code.env put-report-symbol.name put-report-symbol.routine Code.calls-exports·report-calls·put-report (put-report-met.met 𝓤 H 𝓜 𝓖 𝓡),
+      put-report-reads.known w Code.env put-report-symbol.name put-report-symbol.routine Code.calls-words·answers·put-report (put-report-met.met 𝓤 H 𝓜 𝓖 𝓡),
     )

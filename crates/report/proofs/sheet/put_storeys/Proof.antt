@@ -3,11 +3,11 @@ use native.Mathlib.Omega.{arith}
 use lib.ListN.{length}
 use borrow.Author.Tests.{ltb-true, ltb-false}
 use Rattle.records.specs.Blank.{noStorey}
-use Rattle.records.specs.Rows.{storeyIn, membersBefore}
+use Rattle.checks.specs.Rows.{storeyIn, membersBefore}
 use Rattle.columns.specs.Bytes.{stamped}
 use Rattle.report.specs.Sheet.{storeyLines, storeysLines}
 use Rattle.report.proofs.Survey.{members-most, part-clear, part-size, part-ends, all-printed, storeys-next, storeys-end}
-use Rattle.records.proofs.RowLoops.{none-before, next-before, part-is}
+use Rattle.checks.proofs.RowLoops.{none-before, next-before, part-is}
 use mathlib.Core.List.{List, [], _∷_}
 use mathlib.Core.Path.{_≡_, refl, ap, _∙_}
 use contract.Lifetimes.{Lfts, Shares}

@@ -34,9 +34,9 @@ use Rattle.storeys.proofs.verdict.refused_building.Reads as refused-bui
 use Rattle.storeys.proofs.building.judge_building.Code
 use Rattle.storeys.proofs.building.judge_building.Key
 use Rattle.storeys.proofs.building.judge_building.Statement.{statement}
-use Rattle.records.proofs.Says as records-Says
-use Rattle.records.proofs.rows.records_fault.Met as records-fault-met
-use Rattle.records.proofs.rows.records_fault.Symbol as records-fault-symbol
+use Rattle.checks.proofs.Says as records-Says
+use Rattle.checks.proofs.records_fault.Met as records-fault-met
+use Rattle.checks.proofs.records_fault.Symbol as records-fault-symbol
 
 abbrev the-records-fault : Callee
 the-records-fault = callee records-Says.records-fault records-fault-symbol.name
@@ -113,7 +113,7 @@ pub judge-building-spec : {M : Type 1} → statement M
 unfolding Code.routine tablesOf
 judge-building-spec {M} 𝓤 H 𝓜 𝓖 𝓡 = let w : World = record { M = M; 𝓤 = 𝓤; H = H; 𝓜 = 𝓜; 𝓖 = 𝓖; 𝓡 = 𝓡 } in
     meets Says.judge-building K 0 Code.function body answers w Code.env Key.name (Code.unfolded 𝓤 H 𝓜 𝓡) (
-      knows records-Says.records-fault w Code.env records-fault-symbol.name records-fault-symbol.routine Code.calls-records·rows·records-fault (records-fault-met.met 𝓤 H 𝓜 𝓖 𝓡),
+      knows records-Says.records-fault w Code.env records-fault-symbol.name records-fault-symbol.routine Code.calls-checks·records-fault (records-fault-met.met 𝓤 H 𝓜 𝓖 𝓡),
       level-of-reads.known w Code.env level-of-symbol.name level-of-symbol.routine Code.calls-storeys·verdict·level-of (level-of-met.met 𝓤 H 𝓜 𝓖 𝓡),
       knows Says.storeys-verdict w Code.env storeys-verdict-symbol.name storeys-verdict-symbol.routine Code.calls-storeys·building·storeys-verdict (storeys-verdict-met.met 𝓤 H 𝓜 𝓖 𝓡),
       judged-building-reads.known w Code.env judged-building-symbol.name judged-building-symbol.routine Code.calls-storeys·verdict·judged-building (judged-building-met.met 𝓤 H 𝓜 𝓖 𝓡),

@@ -3,10 +3,10 @@ use lib.ListN.{length}
 use borrow.Author.Tests.{ltb-true, ltb-false}
 use Rattle.storeys.specs.declared.verdict.Verdict.{Verdict}
 use Rattle.records.specs.Blank.{noStorey}
-use Rattle.records.specs.Rows.{membersBefore}
+use Rattle.checks.specs.Rows.{membersBefore}
 use Rattle.storeys.specs.Verdict.{verdictOf}
 use Rattle.storeys.proofs.Structs.{storeyfinding, verdict}
-use Rattle.records.proofs.RowLoops.{none-before, next-before, next-within}
+use Rattle.checks.proofs.RowLoops.{none-before, next-before, next-within}
 use Rattle.storeys.proofs.BuildingRows.{verdict-none, verdict-all, found-due, verdict-next}
 use Prim.Native.Nat.{ℕ, _+_, _-_, _≤_}
 use mathlib.Core.List.{[], _∷_}

@@ -19,8 +19,8 @@ use Rattle.storeys.proofs.row.head_fault.Met as head-fault-met
 use Rattle.storeys.proofs.row.head_fault.Symbol as head-fault-symbol
 use Rattle.storeys.proofs.row.head_fault.Kinds as head-fault-kinds
 use Rattle.storeys.proofs.row.head_fault.Reads as head-fault-reads
-use Rattle.records.proofs.rows.members_fault.Met as members-fault-met
-use Rattle.records.proofs.rows.members_fault.Symbol as members-fault-symbol
+use Rattle.checks.proofs.members_fault.Met as members-fault-met
+use Rattle.checks.proofs.members_fault.Symbol as members-fault-symbol
 use Rattle.storeys.proofs.Says as Says
 use Rattle.storeys.proofs.storey.found.Met as found-met
 use Rattle.storeys.proofs.storey.found.Symbol as found-symbol
@@ -35,7 +35,7 @@ use Rattle.storeys.proofs.row.refused_storey.Reads as refused-storey-re
 use Rattle.storeys.proofs.storey.judge_storey.Code
 use Rattle.storeys.proofs.storey.judge_storey.Key
 use Rattle.storeys.proofs.storey.judge_storey.Statement.{statement}
-use Rattle.records.proofs.Says as records-Says
+use Rattle.checks.proofs.Says as records-Says
 
 abbrev the-head-fault : Callee
 the-head-fault = record { n = 0; ps = head-fault-kinds.ps; r = head-fault-kinds.r; asked = head-fault-reads.Asked; learnt = head-fault-reads.Learnt; name = head-fault-symbol.name }
@@ -122,7 +122,7 @@ unfolding Code.routine tablesOf
 judge-storey-spec {M} 𝓤 H 𝓜 𝓖 𝓡 = let w : World = record { M = M; 𝓤 = 𝓤; H = H; 𝓜 = 𝓜; 𝓖 = 𝓖; 𝓡 = 𝓡 } in
     meets Says.judge-storey K 0 Code.function body answers w Code.env Key.name (Code.unfolded 𝓤 H 𝓜 𝓡) (
       head-fault-reads.known w Code.env head-fault-symbol.name head-fault-symbol.routine Code.calls-storeys·row·head-fault (head-fault-met.met 𝓤 H 𝓜 𝓖 𝓡),
-      knows records-Says.members-fault w Code.env members-fault-symbol.name members-fault-symbol.routine Code.calls-records·rows·members-fault (members-fault-met.met 𝓤 H 𝓜 𝓖 𝓡),
+      knows records-Says.members-fault w Code.env members-fault-symbol.name members-fault-symbol.routine Code.calls-checks·members-fault (members-fault-met.met 𝓤 H 𝓜 𝓖 𝓡),
       knows Says.found w Code.env found-symbol.name found-symbol.routine Code.calls-storeys·storey·found (found-met.met 𝓤 H 𝓜 𝓖 𝓡),
       judged-storey-reads.known w Code.env judged-storey-symbol.name judged-storey-symbol.routine Code.calls-storeys·row·judged-storey (judged-storey-met.met 𝓤 H 𝓜 𝓖 𝓡),
       refused-storey-reads.known w Code.env refused-storey-symbol.name refused-storey-symbol.routine Code.calls-storeys·row·refused-storey (refused-storey-met.met 𝓤 H 𝓜 𝓖 𝓡),

@@ -1,0 +1,4 @@
+pub mod Refusals
+pub mod RowLaws
+pub mod RowLoops
+pub mod Says

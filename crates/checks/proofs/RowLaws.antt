@@ -1,0 +1,67 @@
+-- The members of a storey among the rows.
+use Prim.Native.Nat.{ℕ, zero, suc, _+_, _≤_, _<_}
+use native.Mathlib.Omega.{arith}
+use mathlib.Core.List.{List, [], _∷_}
+use mathlib.Core.Path.{_≡_, refl}
+use lib.ListN.{length, drop, length-take, length-drop}
+use Rattle.records.specs.declared.Storey.{Storey}
+use Rattle.records.specs.declared.Member.{Member}
+use Rattle.records.specs.Notation.{total, first}
+use Rattle.checks.specs.Rows.{storeyIn, membersBefore, membersOf, countFault, countsFault, storeyRowsFault, memberRowsFault, recordsFault}
+use Rattle.records.specs.Records.{headerFault, storeyFault, repeated}
+use Rattle.records.specs.declared.Header.{Header}
+use Rattle.checks.proofs.Refusals.{None, one, rest, in-order-clear, first-clear, count-clear}
+
+-- the members of a storey lie within the rows
+before-none : (i : ℕ) → membersBefore [] i ≡ 0
+unfolding membersBefore
+before-none zero = refl
+before-none (suc i) = rw (before-none i)
+
+pub before-next : (s : Storey) (ss : List Storey) (i : ℕ) → membersBefore (s ∷ ss) (suc i) ≡ s .count + membersBefore ss i
+unfolding membersBefore
+before-next s ss zero = omega arith
+before-next s ss (suc i) = omega (arith, before-next s ss i)
+
+pub before-within : (ss : List Storey) (i : ℕ) → membersBefore ss i ≤ total (λ s. s .count) ss
+unfolding total membersBefore
+before-within [] i = rw (before-none i) (omega arith)
+before-within (s ∷ ss) zero = omega arith
+before-within (s ∷ ss) (suc i) = omega (arith, before-next s ss i, before-within ss i)
+
+pub before-all : (ss : List Storey) → membersBefore ss (length ss) ≡ total (λ s. s .count) ss
+unfolding total membersBefore
+before-all [] = refl
+before-all (s ∷ ss) = omega (arith, before-next s ss (length ss), before-all ss)
+
+pub members-counted : (ss : List Storey) (ms : List Member) (i : ℕ) → total (λ s. s .count) ss ≡ length ms → storeyIn ss i .count ≡ length (membersOf ss ms i)
+unfolding membersOf membersBefore
+members-counted ss ms i e =
+    let b = membersBefore ss i in
+    omega (arith, e, length-take (storeyIn ss i .count) (drop b ms), length-drop b ms, before-within ss (suc i))
+
+-- ---- records without a refusal
+module _ (h : Header) (ss : List Storey) (ms : List Member) (none : recordsFault h ss ms ≡ 0) where
+  checks : None (countsFault h ss ms ∷ headerFault h ∷ first 0 (λ n. n) (storeyRowsFault ss ms) (length ss) ∷ [])
+  unfolding recordsFault
+  checks = in-order-clear _ none
+
+  counts : None (countFault (h .count) (length ss) ∷ countFault (total (λ s. s .count) ss) (length ms) ∷ [])
+  unfolding countsFault
+  counts = in-order-clear _ (one checks)
+
+  pub storeys-counted : h .count ≡ length ss
+  storeys-counted = count-clear (h .count) (length ss) (one counts)
+
+  pub total-counted : total (λ s. s .count) ss ≡ length ms
+  total-counted = count-clear (total (λ s. s .count) ss) (length ms) (one (rest counts))
+
+  pub header-good : headerFault h ≡ 0
+  header-good = one (rest checks)
+
+  pub rows-good : first 0 (λ n. n) (storeyRowsFault ss ms) (length ss) ≡ 0
+  rows-good = one (rest (rest checks))
+
+  pub rows : (i : ℕ) → i < length ss → None (storeyFault (storeyIn ss i) ∷ repeated (λ j. storeyIn ss j .number) i ∷ memberRowsFault (membersOf ss ms i) ∷ [])
+  unfolding storeyRowsFault
+  rows i l = in-order-clear _ (first-clear (storeyRowsFault ss ms) (length ss) rows-good i l)

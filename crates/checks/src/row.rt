@@ -1,0 +1,59 @@
+// One record by itself: what the checks over rows do with each.
+ghost use mathlib.Core.Path.{_≡_};
+ghost use mathlib.Core.List.{[], _∷_};
+ghost use Rattle.records.specs.Notation.{inOrder};
+ghost use Rattle.records.specs.Records.{storeyFault, memberFault};
+ghost use Rattle.checks.specs.RowChecks.{headerCallFault};
+use records::Header;
+use records::Member;
+use records::Storey;
+use records::ranges::header_fault;
+use records::ranges::member_fault;
+use records::ranges::storey_fault;
+
+pub(crate) fn number_of(m: Member) -> u64
+    ensures { λ r. ⌜ r ≡ m .number ⌝ }
+{
+    m.number
+}
+
+pub(crate) fn storey_number(s: Storey) -> u64
+    ensures { λ r. ⌜ r ≡ s .number ⌝ }
+{
+    s.number
+}
+
+// A member's 3 and 4, then the 5 that is handed in.
+pub(crate) fn row_fault(m: Member, repeated: u64) -> u64
+    ensures { λ r. ⌜ r ≡ inOrder (memberFault m ∷ repeated ∷ []) ⌝ }
+{
+    let f = member_fault(m);
+    if f != 0 {
+        return f;
+    }
+    repeated
+}
+
+// A storey's 3, then the 5 that is handed in.
+pub(crate) fn storey_row_fault(s: Storey, repeated: u64) -> u64
+    ensures { λ r. ⌜ r ≡ inOrder (storeyFault s ∷ repeated ∷ []) ⌝ }
+{
+    let f = storey_fault(s);
+    if f != 0 {
+        return f;
+    }
+    repeated
+}
+
+// The refusals of a survey before its rows': 1, and the header's 3 and 7.
+pub(crate) fn header_call_fault(h: Header, storeys: usize, fit: bool) -> u64
+    ensures { λ r. ⌜ r ≡ headerCallFault h storeys fit ⌝ }
+{
+    if h.count != storeys as u64 {
+        return 1;
+    }
+    if !fit {
+        return 1;
+    }
+    header_fault(h)
+}

@@ -1,0 +1,69 @@
+-- What the calls for other languages give and leave.
+use Prim.Native.Nat.{ℕ, _<_, _≤_}
+use mathlib.Core.List.{List, [], _∷_}
+use mathlib.Core.Path.{_≡_}
+use lib.Dec.{leb}
+use lib.ListN.{length}
+use Rattle.records.specs.Notation.{pick}
+use Rattle.members.specs.Finding.{Returned}
+use Rattle.words.specs.Words.{packed}
+use Rattle.reading.specs.Answer.{Told, filled, refusal}
+use Rattle.records.specs.declared.Header.{Header}
+use Rattle.records.specs.declared.Storey.{Storey}
+use Rattle.records.specs.declared.Member.{Member}
+use Rattle.storeys.specs.declared.BuildingAnswer.{BuildingAnswer}
+use Rattle.storeys.specs.Storey.{publishedRules}
+use Rattle.columns.specs.Line.{atFront}
+use Rattle.storeys.specs.Building.{Answers, returnedBuilding}
+
+-- the form of the calls: a change of one raises it
+abbrev pub version : ℕ
+version = 2
+
+-- how many values each call puts to the front of `out`
+abbrev pub readingCount : ℕ
+readingCount = 8
+
+abbrev pub memberCount : ℕ
+memberCount = 7
+
+abbrev pub storeyCount : ℕ
+storeyCount = 6
+
+abbrev pub buildingCount : ℕ
+buildingCount = 3
+
+abbrev pub reportCount : ℕ
+reportCount = 1
+
+-- given where `out` is too short for the values; no refusal is packed as this
+abbrev pub short : ℕ
+short = 255
+
+-- by the room in `out` for so many values: what is given or left with it, and without
+abbrev pub ifRoom : {A : Type 0} → ℕ → List ℕ → A → A → A
+ifRoom count out with without = pick (leb count (length out)) with without
+
+-- what a call gives
+abbrev pub given : ℕ → Returned → List ℕ → ℕ
+given count r out = ifRoom count out (packed r) short
+
+-- what it leaves in `out`: "All lent memory is unchanged by a refusal; an accepted call changes only the rows or bytes it fills, from the front"
+abbrev pub outAfter : ℕ → Returned → List ℕ → List ℕ
+outAfter count r out = ifRoom count out (atFront (r .values) out) out
+
+-- what reading returns: the header's six fields and the numbers of storey and member rows filled; or the refusal with its line
+abbrev pub readingReturned : Told → Returned
+readingReturned (filled h storeys members) =
+    record {
+      refusal = 0;
+      line = 0;
+      values = h .knowledge ∷ h .height ∷ h .storeys ∷ h .tilt1 ∷ h .tilt2 ∷ h .count ∷ storeys ∷ members ∷ [];
+    }
+readingReturned (refusal number line) = record { refusal = number; line = line; values = [] }
+
+-- what the call on a building gives and leaves in `out`, with room there by an answer that document 01 gives
+pub data BuildingGiven (h : Header) (ss : List Storey) (ms : List Member) (before : List ℕ) (result : ℕ) (after : List ℕ) : Type 0 where
+  no-room : length before < buildingCount → result ≡ short → after ≡ before → BuildingGiven h ss ms before result after
+  room : buildingCount ≤ length before → (answer : BuildingAnswer) → Answers publishedRules h ss ms answer
+      → result ≡ packed (returnedBuilding answer) → after ≡ atFront (returnedBuilding answer .values) before → BuildingGiven h ss ms before result after
