@@ -1,2 +1,3 @@
 pub mod Stamps
 pub mod Digits
+pub mod Fields

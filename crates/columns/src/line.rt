@@ -2,10 +2,10 @@
 ghost use mathlib.Core.Path.{_≡_};
 ghost use Prim.Native.Nat.{_+_, _*_, _≤_};
 ghost use lib.Dec.{leb};
-ghost use lib.ListN.{length};
+ghost use lib.ListN.{length, replicate};
 ghost use Rattle.format.specs.Spelling.{spelled};
 ghost use Rattle.columns.specs.Line.{line};
-ghost use Rattle.columns.specs.Bytes.{stamped, digitsOver, putAt, placeAfter};
+ghost use Rattle.columns.specs.Bytes.{stamped, signOver, digitsOver, putAt, placeAfter, KeptOutside};
 
 // Bytes as they stand.
 fn put_text(out: &mut [u8], at: usize, text: &[u8]) -> usize
@@ -21,32 +21,61 @@ fn put_text(out: &mut [u8], at: usize, text: &[u8]) -> usize
     at + i
 }
 
-// The digits of a number over the last of 12 columns.
-fn put_digits(out: &mut [u8], at: usize, n: u64)
-    requires { ⌜ at + 12 ≤ length (now out) ⌝ }
-    ensures { λ _. ⌜ now (out .exit) ≡ digitsOver (now (out .entry)) at 12 n ⌝ }
+// Blanks in so many columns.
+fn put_blanks(out: &mut [u8], at: usize, width: usize)
+    requires { ⌜ at + width ≤ length (now out) ⌝ }
+    ensures { λ _. ⌜ now (out .exit) ≡ stamped (now (out .entry)) at (replicate width 32) ⌝ }
+{
+    let mut i = 0;
+    while i < width {
+        out[at + i] = b' ';
+        i += 1;
+    }
+}
+
+// The sign in the last of the columns before the digits, where there is one.
+fn put_sign(out: &mut [u8], at: usize, left: usize, sign: u8)
+    requires { ⌜ at + left ≤ length (now out) ⌝ }
+    ensures { λ _. ⌜ now (out .exit) ≡ signOver (now (out .entry)) at left sign ⌝ }
+{
+    if 0 < left {
+        out[at + left - 1] = sign;
+    }
+}
+
+// The digits of a number over the last of so many columns, its sign before them.
+fn put_digits(out: &mut [u8], at: usize, width: usize, sign: u8, n: u64)
+    requires { ⌜ at + width ≤ length (now out) ⌝ }
+    ensures { λ _. ⌜ now (out .exit) ≡ digitsOver (now (out .entry)) at width sign n ⌝ }
 {
     let mut q = n;
-    let mut left = 12;
+    let mut left = width;
     while 0 < left {
         left -= 1;
         out[at + left] = b'0' + (q % 10) as u8;
         if q < 10 {
+            put_sign(out, at, left, sign);
             return;
         }
         q = q / 10;
     }
 }
 
-// A number in a field of 12 columns: blanks, then its digits over the last of them.
-fn put_field(out: &mut [u8], at: usize, n: u64) -> usize
-    requires { ⌜ at + 12 ≤ length (now out) ⌝ }
-    ensures { λ r. ⌜ r ≡ at + 12 ⌝ }
-    ensures { λ _. ⌜ now (out .exit) ≡ stamped (now (out .entry)) at (spelled 12 32 n) ⌝ }
+// A number in a field of so many columns: blanks, its sign directly before its digits. A field that does not fit changes no byte.
+pub fn put_field(out: &mut [u8], at: usize, width: usize, sign: u8, n: u64) -> usize
+    ensures { λ r. ⌜ r ≡ placeAfter (spelled width sign n) at (length (now (out .entry))) ⌝ }
+    ensures { λ _. ⌜ now (out .exit) ≡ putAt (spelled width sign n) at (now (out .entry)) ⌝ }
+    ensures { λ _. ⌜ KeptOutside at width (now (out .entry)) (now (out .exit)) ⌝ }
 {
-    let p = put_text(out, at, b"            ");
-    put_digits(out, at, n);
-    p
+    if out.len() < at {
+        return at;
+    }
+    if out.len() - at < width {
+        return at;
+    }
+    put_blanks(out, at, width);
+    put_digits(out, at, width, sign, n);
+    at + width
 }
 
 fn put_whole_line(out: &mut [u8], at: usize, tag: &[u8], values: &[u64]) -> usize
@@ -57,7 +86,7 @@ fn put_whole_line(out: &mut [u8], at: usize, tag: &[u8], values: &[u64]) -> usiz
     let mut p = put_text(out, at, tag);
     let mut i = 0;
     while i < values.len() {
-        p = put_field(out, p, values[i]);
+        p = put_field(out, p, 12, b' ', values[i]);
         i += 1;
     }
     put_text(out, p, b"\n")

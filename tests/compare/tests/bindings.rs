@@ -4,7 +4,7 @@ use compare::{
     storey_numbers, worked_example,
 };
 use generator::{any_file, valid_survey, write_survey, Rng};
-use independent::{Member, Storey, Survey};
+use independent::{Header, Member, Storey, Survey};
 use llunareth::raw;
 use std::fs::{self, File};
 use std::io::Write;
@@ -308,5 +308,46 @@ fn every_call_by_the_names_of_the_header() {
             let (printed, code) = outcome(Command::new(&program).stdin(File::open(&path).expect("a file")).output().expect("calls starts"));
             assert_eq!((&printed, code), (&calls_lines(&file), Some(0)), "{name} {standard}");
         }
+    }
+}
+
+// ---- the stack of each call ----
+
+/// Bytes that each call takes at most, as docs/CALLS.md states them.
+const STACKS: [(&str, usize); 9] = [
+    ("llunareth_read", 5_000),
+    ("llunareth_header_fault", 1_000),
+    ("llunareth_storey_fault", 1_000),
+    ("llunareth_member_fault", 1_000),
+    ("llunareth_judge_member", 5_000),
+    ("llunareth_judge_storey", 3_000),
+    ("llunareth_judge_building", 3_000),
+    ("llunareth_report", 4_000),
+    ("llunareth_determine", 72_000),
+];
+
+/// A survey with so many members in each storey.
+fn survey_of(counts: &[u64]) -> Survey {
+    let member = |number| Member { number, ..plain_column() };
+    Survey {
+        header: Header::from_fields(&[100, 30_000, counts.len() as i128, 0, 0, counts.len() as i128]),
+        storeys: (1..).zip(counts).map(|(number, &count)| Storey::from_fields(&[number, 9_999_999, count.into()])).collect(),
+        members: counts.iter().flat_map(|&count| (1..=count).map(member)).collect(),
+    }
+}
+
+#[test]
+fn the_stack_of_each_call() {
+    let program = build(&mut compiler("cc", "-std=c99"), "tests/compare/c/stack.c", "stack");
+    let (largest, longest) = (own("largest.survey"), own("longest.survey"));
+    fs::write(&largest, write_survey(&survey_of(&[200; 10]))).expect("written");
+    fs::write(&longest, write_survey(&survey_of(&[200, 111]))).expect("written");
+    let (printed, code) = outcome(Command::new(program).args([largest, longest]).output().expect("stack starts"));
+    assert_eq!(code, Some(0), "a call refused its survey: {printed}");
+    let lines: Vec<&str> = printed.lines().collect();
+    assert_eq!(lines.len(), STACKS.len());
+    for (line, (name, most)) in lines.iter().zip(STACKS) {
+        let taken = line.strip_prefix(name).and_then(|rest| rest.trim().parse::<usize>().ok()).expect("a call and its bytes");
+        assert!(0 < taken && taken <= most, "{line}, at most {most}");
     }
 }

@@ -8,6 +8,7 @@ use Rattle.format.specs.Spelling.{spelled}
 use Rattle.columns.specs.Line.{printedNumbers}
 use Rattle.columns.specs.Bytes.{stamped}
 use Rattle.columns.proofs.Stamps.{kept-length, printed-numbers-next, printed-numbers-end, line-done}
+use Rattle.columns.proofs.Fields.{field-fits}
 use Rattle.columns.proofs.line.put_whole_line.Statement.{statement}
 use Rattle.columns.proofs.line.put_whole_line.Tie as tie
 
@@ -30,11 +31,7 @@ shared-slice-read-put-field : tie.Need-shared-slice-read-put-field Inv-loop μ-l
 shared-slice-read-put-field c = search needs
 
 put-field-requires : tie.Need-put-field-requires Inv-loop μ-loop
-put-field-requires c κs =
-    let l = c .before .before .before .loop in
-    let t = c .before .before .before .before .before .before .put-text in
-    let a = c .before .before .before .before .before .before .before .before .before .before .before .args in
-    omega (arith, c .before .before .before .before .before .before .before .before .before .before .before .pre, l .inv .0, l .inv .1, l .inv .2, t .ensures .0, c .before .before .loop-test .taken, kept-length (t .last .0) (a .out .now) (a .at) (a .tag .now) (t .ensures .1))
+put-field-requires c κs = search needs
 
 add-i : tie.Need-add-i Inv-loop μ-loop
 add-i c = search needs
@@ -47,11 +44,15 @@ loop-again c =
     let l = c .before .before .before .before .before .before .loop in
     let t = c .before .before .before .before .before .before .before .before .before .put-text in
     let a = c .before .before .before .before .before .before .before .before .before .before .before .before .before .before .args in
-    let f = c .before .before .put-field in (
+    let f = c .before .before .put-field in
+    let v = getD (a .values .now) (l .i) 0 in
+    let taken = c .before .before .before .before .before .loop-test .taken in
+    let room : l .p + 12 ≤ length (l .out) = omega (arith, c .before .before .before .before .before .before .before .before .before .before .before .before .before .before .pre, l .inv .0, l .inv .1, l .inv .2, t .ensures .0, taken, kept-length (t .last .0) (a .out .now) (a .at) (a .tag .now) (t .ensures .1)) in
+    let placed = field-fits (l .out) (l .p) 12 32 v (f .result) (f .last .0) room (f .ensures) in (
       omega arith,
-      omega (arith, f .ensures .0, l .inv .1),
-      kept-length (f .last .0) (l .out) (l .p) (spelled 12 32 (getD (a .values .now) (l .i) 0)) (f .ensures .1) ∙ l .inv .2,
-      printed-numbers-next (l .out) _ (f .last .0) (a .values .now) (l .p) (f .result) (l .i) (l .inv .3) (c .before .before .before .before .before .loop-test .taken) (f .ensures .1) (f .ensures .0),
+      omega (arith, placed .0, l .inv .1),
+      kept-length (f .last .0) (l .out) (l .p) (spelled 12 32 v) (placed .1) ∙ l .inv .2,
+      printed-numbers-next (l .out) _ (f .last .0) (a .values .now) (l .p) (f .result) (l .i) (l .inv .3) taken (placed .1) (placed .0),
     )
 
 slice-aggregate-put-text : tie.Need-slice-aggregate-put-text Inv-loop μ-loop
