@@ -1,8 +1,8 @@
 -- The members of a storey among the rows.
-use Prim.Native.Nat.{ℕ, zero, suc, _+_, _≤_, _<_}
+use Prim.Native.Nat.{ℕ, zero, suc, _+_, _*_, _≤_, _<_}
 use native.Mathlib.Omega.{arith}
 use mathlib.Core.List.{List, [], _∷_}
-use mathlib.Core.Path.{_≡_, refl}
+use mathlib.Core.Path.{_≡_, refl, _∙_}
 use lib.ListN.{length, drop, length-take, length-drop}
 use Rattle.records.specs.declared.Storey.{Storey}
 use Rattle.records.specs.declared.Member.{Member}
@@ -11,6 +11,7 @@ use Rattle.checks.specs.Rows.{storeyIn, membersBefore, membersOf, countF
 use Rattle.records.specs.First.{first}
 use Rattle.records.specs.Records.{headerFault, storeyFault, repeated}
 use Rattle.records.specs.declared.Header.{Header}
+use Rattle.records.proofs.Validity.{count-most, ten-storeys}
 use Rattle.checks.proofs.Refusals.{None, one, rest, in-order-clear, first-clear, count-clear}
 
 -- the members of a storey lie within the rows
@@ -66,3 +67,18 @@ module _ (h : Header) (ss : List Storey) (ms : List Member) (none : recordsFault
   pub rows : (i : ℕ) → i < length ss → None (storeyFault (storeyIn ss i) ∷ repeated (λ j. storeyIn ss j .number) i ∷ memberRowsFault (membersOf ss ms i) ∷ [])
   unfolding storeyRowsFault
   rows i l = in-order-clear _ (first-clear (storeyRowsFault ss ms) (length ss) rows-good i l)
+
+  -- ---- how many there are
+  pub storeys-most : length ss ≤ 10
+  storeys-most = omega (arith, storeys-counted, ten-storeys h header-good)
+
+  pub before-end : membersBefore ss (length ss) ≡ length ms
+  before-end = before-all ss ∙ total-counted
+
+  before-most : (i : ℕ) → i ≤ length ss → membersBefore ss i ≤ 200 * i
+  unfolding membersBefore
+  before-most zero l = omega arith
+  before-most (suc i) l = omega (arith, before-most i (omega arith), count-most (storeyIn ss i) (one (rows i (omega arith))))
+
+  pub members-most : length ms ≤ 2_000
+  members-most = omega (arith, before-end, before-most (length ss) (omega arith), storeys-most)

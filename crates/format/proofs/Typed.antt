@@ -75,12 +75,12 @@ length-either : (t : Bool) (m n : ℕ) → length (pick t (spelled 8 32 m) (spel
 length-either true m n = length-spelled 8 32 m
 length-either false m n = length-spelled 8 45 n
 
-length-field : (force : Bool) (v : ℕ) → length (fieldText force v) ≡ 8
+pub length-field : (force : Bool) (v : ℕ) → length (fieldText force v) ≡ 8
 unfolding fieldText
 length-field false v = length-spelled 8 32 v
 length-field true v = length-either (leb zeroForce v) (v - zeroForce) (zeroForce - v)
 
-length-fields : (tag : Tag) (j : ℕ) (vs : List ℕ) → length (fieldsText tag j vs) ≡ 8 * length vs
+pub length-fields : (tag : Tag) (j : ℕ) (vs : List ℕ) → length (fieldsText tag j vs) ≡ 8 * length vs
 unfolding fieldsText
 length-fields tag j [] = refl
 length-fields tag j (v ∷ vs) =

@@ -1,0 +1,5 @@
+pub mod Structs
+pub mod Putting
+pub mod Storeys
+pub mod Called
+pub mod Says
