@@ -7,9 +7,9 @@ use lib.ListN.{length, drop, length-take, length-drop}
 use Rattle.records.specs.declared.Storey.{Storey}
 use Rattle.records.specs.declared.Member.{Member}
 use Rattle.records.specs.Totals.{total}
-use Rattle.checks.specs.Rows.{storeyIn, membersBefore, membersOf, countFault, countsFault, storeyRowsFault, memberRowsFault, recordsFault}
+use Rattle.checks.specs.Rows.{memberIn, rowFault, storeyIn, membersBefore, membersOf, countFault, countsFault, storeyRowsFault, memberRowsFault, recordsFault}
 use Rattle.records.specs.First.{first}
-use Rattle.records.specs.Records.{headerFault, storeyFault, repeated}
+use Rattle.records.specs.Records.{headerFault, storeyFault, memberFault, repeated}
 use Rattle.records.specs.declared.Header.{Header}
 use Rattle.records.proofs.Validity.{count-most, ten-storeys}
 use Rattle.checks.proofs.Refusals.{None, one, rest, in-order-clear, first-clear, count-clear}
@@ -41,6 +41,11 @@ unfolding membersOf membersBefore
 members-counted ss ms i e =
     let b = membersBefore ss i in
     omega (arith, e, length-take (storeyIn ss i .count) (drop b ms), length-drop b ms, before-within ss (suc i))
+
+-- ---- a storey's members without a refusal
+pub row-good : (rows : List Member) → memberRowsFault rows ≡ 0 → (j : ℕ) → j < length rows → None (memberFault (memberIn rows j) ∷ repeated (λ e. memberIn rows e .number) j ∷ [])
+unfolding memberRowsFault rowFault
+row-good rows e j l = in-order-clear _ (first-clear (rowFault rows) (length rows) e j l)
 
 -- ---- records without a refusal
 module _ (h : Header) (ss : List Storey) (ms : List Member) (none : recordsFault h ss ms ≡ 0) where

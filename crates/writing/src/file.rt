@@ -64,12 +64,7 @@ fn put_storeys(out: &mut [u8], at: usize, storeys: &[Storey], members: &[Member]
 }
 
 // The writing call: the file of good records, from the front of the lent bytes.
-pub fn write_file(
-    h: Header,
-    storeys: &[Storey],
-    members: &[Member],
-    out: &mut [u8],
-) -> Writing
+pub fn write_file(h: Header, storeys: &[Storey], members: &[Member], out: &mut [u8]) -> Writing
     ensures { λ r. ⌜ returnedFile (r .answer) ≡ fileReturned h (now (storeys .entry)) (now (members .entry)) (length (now (out .entry))) ⌝ }
     ensures { λ _. ⌜ now (out .exit) ≡ fileAfter h (now (storeys .entry)) (now (members .entry)) (now (out .entry)) ⌝ }
 {

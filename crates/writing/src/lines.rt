@@ -65,14 +65,7 @@ pub(crate) fn put_header(out: &mut [u8], h: Header) -> usize
     ensures { λ r. ⌜ r ≡ 50 ⌝ }
     ensures { λ _. ⌜ now (out .exit) ≡ stamped (now (out .entry)) 0 (lineText B (headerValues h)) ⌝ }
 {
-    let values = [
-        h.knowledge,
-        h.height,
-        h.storeys,
-        h.tilt1,
-        h.tilt2,
-        h.count,
-    ];
+    let values = [h.knowledge, h.height, h.storeys, h.tilt1, h.tilt2, h.count];
     put_line(out, 0, Tag::B, &values)
 }
 
