@@ -6,7 +6,7 @@ use mathlib.Core.List.{List, [], _∷_}
 use mathlib.Core.Path.{_≡_, refl}
 use lib.Dec.{eqb}
 use borrow.Author.Tests.{eqb-true, eqb-false, eq-eqb}
-use Rattle.records.specs.First.{pick, inOrder, first}
+use Rattle.records.specs.Notation.{pick, inOrder, first}
 use Rattle.records.proofs.Firsts as Firsts
 use Rattle.records.proofs.Validity.{clear}
 use Rattle.checks.specs.Rows.{countFault}

@@ -6,9 +6,8 @@ use mathlib.Core.Path.{_≡_, refl, _∙_}
 use lib.ListN.{length, drop, length-take, length-drop}
 use Rattle.records.specs.declared.Storey.{Storey}
 use Rattle.records.specs.declared.Member.{Member}
-use Rattle.records.specs.Totals.{total}
+use Rattle.records.specs.Notation.{total, first}
 use Rattle.checks.specs.Rows.{memberIn, rowFault, storeyIn, membersBefore, membersOf, countFault, countsFault, storeyRowsFault, memberRowsFault, recordsFault}
-use Rattle.records.specs.First.{first}
 use Rattle.records.specs.Records.{headerFault, storeyFault, memberFault, repeated}
 use Rattle.records.specs.declared.Header.{Header}
 use Rattle.records.proofs.Validity.{count-most, ten-storeys}

@@ -7,12 +7,11 @@ use mathlib.Core.List.{List, [], _∷_}
 use mathlib.Core.Path.{_≡_, refl, ap, sym, _∙_}
 use lib.Dec.{eqb}
 use lib.ListN.{length, drop, take}
-use Rattle.records.specs.First.{pick, anyBelow, inOrder, first}
+use Rattle.records.specs.Notation.{pick, anyBelow, inOrder, first, total}
 use Rattle.records.specs.Records.{memberFault, storeyFault, repeated, headerFault}
 use Rattle.records.specs.declared.Member.{Member}
 use Rattle.records.proofs.Below.{any-none, any-more, any-holds}
 use Rattle.records.proofs.Firsts.{first-none, first-next, first-kept, in-order-last, pick-zero, pick-other, nested, in-order-both, last-of}
-use Rattle.records.specs.Totals.{total}
 use Rattle.checks.specs.Rows.{memberIn, rowFault, memberRowsFault, storeyIn, membersBefore, membersOf, storeyRowsFault, countFault, countsFault, recordsFault}
 use borrow.Author.Tests.{eqb-true, eqb-false, eq-eqb, ne-eqb}
 use Rattle.records.specs.declared.Storey.{Storey}

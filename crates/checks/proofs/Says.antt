@@ -9,8 +9,7 @@ use mir.Syntax.{w64}
 use borrow.Fn.Kinds.{rNum, rBool}
 use borrow.Kind.Num.{pNum}
 use borrow.Kind.ShrSlice.{pShrS}
-use Rattle.records.specs.First.{pick, anyBelow, first}
-use Rattle.records.specs.Totals.{total}
+use Rattle.records.specs.Notation.{pick, anyBelow, first, total}
 use Rattle.checks.specs.Rows.{memberIn, memberRowsFault, storeyIn, storeyRowsFault, recordsFault}
 use Rattle.checks.specs.RowChecks.{Counted}
 use Rattle.walk.proofs.Fn.{Plain}

@@ -4,8 +4,7 @@ use mathlib.Core.Bool.{Bool}
 use mathlib.Core.List.{List, [], _∷_}
 use mathlib.Core.Path.{_≡_}
 use lib.ListN.{length}
-use Rattle.records.specs.First.{pick, inOrder}
-use Rattle.records.specs.Totals.{total}
+use Rattle.records.specs.Notation.{pick, inOrder, total}
 use Rattle.records.specs.Records.{headerFault}
 use Rattle.checks.specs.Rows.{countFault}
 use Rattle.records.specs.declared.Header.{Header}

@@ -1,15 +1,7 @@
 -- The records of a survey over rows of any length (document 01, "Refusals as returned": "Calls on records check 1 over all, then records in survey order: 3, 4, 5, 7").
-use Prim.Native.Nat.{ℕ, zero, suc, _+_}
-use mathlib.Core.List.{List, [], _∷_}
-use lib.Dec.{eqb}
-use lib.ListN.{length, getD, take, drop}
-use Rattle.records.specs.Blank.{noStorey, noMember}
-use Rattle.records.specs.First.{pick, inOrder, first}
-use Rattle.records.specs.Totals.{total}
-use Rattle.records.specs.Records.{headerFault, storeyFault, memberFault, repeated}
-use Rattle.records.specs.declared.Header.{Header}
-use Rattle.records.specs.declared.Storey.{Storey}
-use Rattle.records.specs.declared.Member.{Member}
+use Rattle.records.specs.Notation.{ℕ, zero, suc, _+_, List, [], _∷_, eqb, length, getD, take, drop, pick, inOrder, first, total}
+pub use Rattle.records.specs.declared.{Header.Header, Storey.Storey, Member.Member}
+use Rattle.records.specs.{Blank.noStorey, Blank.noMember, Records.headerFault, Records.storeyFault, Records.memberFault, Records.repeated}
 
 -- row j of some members, counted from 0
 abbrev pub memberIn : List Member → ℕ → Member

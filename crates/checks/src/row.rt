@@ -1,7 +1,7 @@
 // One record by itself: what the checks over rows do with each.
 ghost use mathlib.Core.Path.{_≡_};
 ghost use mathlib.Core.List.{[], _∷_};
-ghost use Rattle.records.specs.First.{inOrder};
+ghost use Rattle.records.specs.Notation.{inOrder};
 ghost use Rattle.records.specs.Records.{storeyFault, memberFault};
 ghost use Rattle.checks.specs.RowChecks.{headerCallFault};
 use records::Header;

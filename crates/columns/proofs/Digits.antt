@@ -9,7 +9,7 @@ use lib.Dec.{ltb}
 use lib.ListN.{length, set, replicate, length-set, length-append, length-replicate}
 use lib.Seq.{set-set, set-comm}
 use borrow.Author.Tests.{lt-ltb, le-ltb, ne-eqb, ltb-true, ltb-false}
-use Rattle.records.specs.First.{pick}
+use Rattle.records.specs.Notation.{pick}
 use Rattle.format.specs.Spelling.{column, spelled}
 use Rattle.format.proofs.Typed.{length-spelled}
 use Rattle.columns.specs.Bytes.{stamped, signOver, digitsOver}

@@ -8,7 +8,7 @@ use lib.Dec.{leb}
 use lib.ListN.{length, take, drop, set, replicate}
 use lib.Seq.{take-set-le, drop-set-lt}
 use borrow.Author.Tests.{le-leb, lt-leb}
-use Rattle.records.specs.First.{pick}
+use Rattle.records.specs.Notation.{pick}
 use Rattle.format.specs.Spelling.{spelled}
 use Rattle.format.proofs.Typed.{length-spelled}
 use Rattle.columns.specs.Bytes.{stamped, digitsOver, putAt, placeAfter, KeptOutside}

@@ -4,7 +4,7 @@ use mathlib.Core.List.{List, [], _∷_}
 use mathlib.Core.Path.{_≡_}
 use lib.Dec.{leb, ltb}
 use lib.ListN.{length, take, drop, set}
-use Rattle.records.specs.First.{pick}
+use Rattle.records.specs.Notation.{pick}
 
 -- the bytes with others in the place of those from `at` on
 unfoldable pub stamped : List ℕ → ℕ → List ℕ → List ℕ

@@ -1,10 +1,6 @@
 -- A line of the printed sheet (document 01, "The printed sheet": "Tag, then fields of 12 columns written likewise"), and a text put from the front of some bytes. A number
 -- wider than its field shows its last 12 digits.
-use Prim.Native.Nat.{ℕ, _+_}
-use mathlib.Core.List.{List, [], _∷_, _++_}
-use lib.Dec.{leb}
-use lib.ListN.{length, drop}
-use Rattle.records.specs.First.{pick}
+use Rattle.records.specs.Notation.{ℕ, List, [], _∷_, _++_, leb, length, drop, pick}
 use Rattle.format.specs.Spelling.{spelled}
 
 -- numbers in fields of 12 columns, one after another

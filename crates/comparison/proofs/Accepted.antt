@@ -7,7 +7,7 @@ use mathlib.Core.Path.{_≡_, refl, sym, ap, _∙_}
 use lib.Dec.{eqb}
 use lib.ListN.{length}
 use borrow.Author.Tests.{eqb-true, eq-eqb, leb-true}
-use Rattle.records.specs.First.{pick, everyBelow}
+use Rattle.records.specs.Notation.{pick, everyBelow}
 use Rattle.records.specs.Records.{inRange, storeyValues, storeyFault, memberFault, repeated}
 use Rattle.records.specs.declared.Header.{Header}
 use Rattle.records.specs.declared.Storey.{Storey}
@@ -22,8 +22,8 @@ use Rattle.storeys.specs.declared.BuildingAnswer.the-variants.{Judged, Refused}
 use Rattle.storeys.specs.Storey.{Rules, over, storeyRisky, storeyFinding, knowledgeFault, storeyCallFault, storeyAnswerBy}
 use Rattle.checks.specs.Rows.{countFault, memberIn, rowFault, memberRowsFault, storeyIn, membersOf, recordsFault}
 use Rattle.records.specs.Blank.{noMember}
-use Rattle.storeys.specs.Building.{buildingRisky, buildingFinding, buildingAnswerBy, placeIn, returnedBuilding}
-use Rattle.comparison.specs.Demand3.{Survey, knowledgeOf, StoreyMembers, storeyMembersAt, storeysMembers, Accepted, overIn, riskyIn, buildingRiskyIn}
+use Rattle.storeys.specs.Building.{buildingRisky, buildingAnswerBy, placeIn, returnedBuilding}
+use Rattle.comparison.specs.Demand3.{Survey, StoreyMembers, storeyMembersAt, storeysMembers, Accepted, overIn, riskyIn, buildingRiskyIn}
 use Rattle.comparison.proofs.Pairs.{All, all-rows, all-listed}
 use Rattle.comparison.proofs.Tests.{never}
 use Rattle.storeys.proofs.Returned.{answer-same}
@@ -57,7 +57,7 @@ module _ (h : Header) (ss : List Storey) (ms : List Member) (none : recordsFault
       }
 
   verdict-at : (rules : Rules) (place : ℕ) → buildingRiskyIn (buildingAnswerBy rules h ss ms place) ≡ buildingRisky rules h ss ms
-  unfolding buildingAnswerBy buildingFinding
+  unfolding buildingAnswerBy
   verdict-at rules place = rw (eq-eqb _ _ none)
 
 -- a sound storey has members, and they are good records
@@ -109,9 +109,9 @@ module _ (rules : Rules) (a : Survey) (r : BuildingAnswer) (acc : Accepted rules
   pub verdict-found : buildingRiskyIn r ≡ buildingRisky rules (a .header) (a .storeys) (a .members)
   verdict-found = ap buildingRiskyIn (answer-same rules (a .header) (a .storeys) (a .members) r (acc .answers)) ∙ verdict-at (a .header) (a .storeys) (a .members) building-clear rules (placeIn r)
 
-  pub level-known : knowledge (knowledgeOf a) ≡ true
+  pub level-known : knowledge (a .header .knowledge) ≡ true
   level-known = known-level (a .header) (a .storeys) (a .members) building-clear
 
-  pub sound-storeys : All (Sound (knowledgeOf a)) (storeysMembers a)
+  pub sound-storeys : All (Sound (a .header .knowledge)) (storeysMembers a)
   sound-storeys =
-      all-listed (Sound (knowledgeOf a)) (storeyMembersAt a) (length (a .storeys)) (sound-at (a .header) (a .storeys) (a .members) building-clear)
+      all-listed (Sound (a .header .knowledge)) (storeyMembersAt a) (length (a .storeys)) (sound-at (a .header) (a .storeys) (a .members) building-clear)

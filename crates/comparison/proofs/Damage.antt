@@ -10,7 +10,7 @@ use lib.Dec.{eqb}
 use lib.ListN.{length}
 use Rattle.records.specs.declared.Member.{Member}
 use Rattle.members.specs.Finding.{flag}
-use Rattle.records.specs.Totals.{total}
+use Rattle.records.specs.Notation.{total}
 use Rattle.storeys.specs.Storey.{damaged, riskyByDamage}
 use Rattle.comparison.specs.Demand3.{MemberPairs}
 use Rattle.comparison.specs.Pairing.{EveryPair}

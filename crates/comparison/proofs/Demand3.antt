@@ -6,18 +6,17 @@ use mathlib.Core.Bool.{Bool, true, _||_, or-false, or-assoc}
 use mathlib.Core.List.{List, [], _∷_, _++_}
 use mathlib.Core.Path.{_≡_, refl, sym, _∙_}
 use lib.ListN.{length}
-use Rattle.records.specs.First.{anyBelow}
+use Rattle.records.specs.Notation.{anyBelow, listed, anyOf}
 use Rattle.records.specs.Records.{memberFault}
-use Rattle.records.specs.Totals.{listed, anyOf}
 use Rattle.records.proofs.Validity.{valid}
 use Rattle.members.specs.Finding.{answerBy}
 use Rattle.members.proofs.Order.{published-ordered}
 use Rattle.storeys.specs.declared.BuildingAnswer.{BuildingAnswer}
 use Rattle.storeys.specs.Storey.{Rules, publishedRules, meetsWallShare, over, storeyRisky, storeyAnswerBy}
 use Rattle.comparison.specs.Orderly.{orderly}
-use Rattle.storeys.specs.Building.{riskyAt, someRisky, buildingRisky, tiltAllowed, tilted}
+use Rattle.storeys.specs.Building.{riskyAt, someRisky, buildingRisky, tilted}
 use Rattle.comparison.specs.Pairing.{EveryPair}
-use Rattle.comparison.specs.Demand3.{Survey, knowledgeOf, StoreyMembers, storeyMembersAt, storeysMembers, Accepted, overIn, riskyIn, Over, Risky, MemberPairs, StoreyPairs, AtLeastAsSevere, AtLeastAsSevereStorey, NowhereBetter, Carried, Demand3By, Demand3}
+use Rattle.comparison.specs.Demand3.{Survey, StoreyMembers, storeyMembersAt, storeysMembers, Accepted, overIn, riskyIn, Over, Risky, MemberPairs, StoreyPairs, AtLeastAsSevere, AtLeastAsSevereStorey, NowhereBetter, Carried, Demand3By, Demand3}
 use Rattle.comparison.proofs.Tests.{or-carried, excess-carried, at-equals}
 use Rattle.comparison.proofs.Pairs.{each, both, of-all, some-carried}
 use Rattle.comparison.proofs.Storeys.{Orderly, rules-ordered, Known, overs-carried, risky-carried}
@@ -79,40 +78,40 @@ some-listed p f (suc n) = rw (some-after p (listed f n) (f n), some-listed p f n
 abbrev verdict : Rules → ℕ → StoreyMembers → Bool
 verdict rules k f = storeyRisky rules k (f .storey .shear) (f .members)
 
-some-storey : (rules : Rules) (a : Survey) → anyOf (verdict rules (knowledgeOf a)) (storeysMembers a) ≡ someRisky rules (a .header) (a .storeys) (a .members)
+some-storey : (rules : Rules) (a : Survey) → anyOf (verdict rules (a .header .knowledge)) (storeysMembers a) ≡ someRisky rules (a .header) (a .storeys) (a .members)
 unfolding someRisky riskyAt
-some-storey rules a = some-listed (verdict rules (knowledgeOf a)) (storeyMembersAt a) (length (a .storeys))
+some-storey rules a = some-listed (verdict rules (a .header .knowledge)) (storeyMembersAt a) (length (a .storeys))
 
 tilt-carried : (a b : Survey) → a .header .tilt1 ≤ b .header .tilt1 → a .header .tilt2 ≤ b .header .tilt2 → tilted (a .header) ≡ true → tilted (b .header) ≡ true
 unfolding tilted
 tilt-carried a b h l =
-    excess-carried tiltAllowed (max (a .header .tilt1) (a .header .tilt2)) tiltAllowed (max (b .header .tilt1) (b .header .tilt2)) (le-refl tiltAllowed) (omega (arith, h, l))
+    excess-carried _ (max (a .header .tilt1) (a .header .tilt2)) _ (max (b .header .tilt1) (b .header .tilt2)) (le-refl _) (omega (arith, h, l))
 
 module _ (rules : Rules) (good : Orderly rules) (a b : Survey) (r q : BuildingAnswer) (ra : Accepted rules a r) (rb : Accepted rules b q) (pairs : StoreyPairs a b) (worse : NowhereBetter a b pairs) where
-  same-level : knowledgeOf a ≡ knowledgeOf b
+  same-level : a .header .knowledge ≡ b .header .knowledge
   same-level = omega (arith, worse .knowledge)
 
-  positive : 0 < knowledgeOf a
-  positive = level-positive (knowledgeOf a) (level-known rules a r ra)
+  positive : 0 < a .header .knowledge
+  positive = level-positive (a .header .knowledge) (level-known rules a r ra)
 
   abbrev Facts : (f g : StoreyMembers) → MemberPairs (f .members) (g .members) → Type 0
-  Facts f g ms = (Sound (knowledgeOf a) f × Sound (knowledgeOf b) g) × AtLeastAsSevereStorey (knowledgeOf a) f g ms
+  Facts f g ms = (Sound (a .header .knowledge) f × Sound (b .header .knowledge) g) × AtLeastAsSevereStorey (a .header .knowledge) f g ms
 
   facts : EveryPair Facts pairs
   facts =
-      both (λ f g ms. Sound (knowledgeOf a) f × Sound (knowledgeOf b) g) (λ f g ms. AtLeastAsSevereStorey (knowledgeOf a) f g ms) pairs
-      (of-all (Sound (knowledgeOf a)) (Sound (knowledgeOf b)) pairs (sound-storeys rules a r ra) (sound-storeys rules b q rb)) (worse .storeys)
+      both (λ f g ms. Sound (a .header .knowledge) f × Sound (b .header .knowledge) g) (λ f g ms. AtLeastAsSevereStorey (a .header .knowledge) f g ms) pairs
+      (of-all (Sound (a .header .knowledge)) (Sound (b .header .knowledge)) pairs (sound-storeys rules a r ra) (sound-storeys rules b q rb)) (worse .storeys)
 
-  verdicts : EveryPair (λ f g ms. verdict rules (knowledgeOf a) f ≡ true → verdict rules (knowledgeOf b) g ≡ true) pairs
+  verdicts : EveryPair (λ f g ms. verdict rules (a .header .knowledge) f ≡ true → verdict rules (b .header .knowledge) g ≡ true) pairs
   verdicts =
-      each Facts (λ f g ms. verdict rules (knowledgeOf a) f ≡ true → verdict rules (knowledgeOf b) g ≡ true)
-      (λ f g ms h. risky-kept rules good (knowledgeOf a) (knowledgeOf b) same-level positive f g ms (h .0 .0) (h .0 .1) (h .1)) pairs facts
+      each Facts (λ f g ms. verdict rules (a .header .knowledge) f ≡ true → verdict rules (b .header .knowledge) g ≡ true)
+      (λ f g ms h. risky-kept rules good (a .header .knowledge) (b .header .knowledge) same-level positive f g ms (h .0 .0) (h .0 .1) (h .1)) pairs facts
 
   building-kept : buildingRisky rules (a .header) (a .storeys) (a .members) ≡ true → buildingRisky rules (b .header) (b .storeys) (b .members) ≡ true
   unfolding buildingRisky
   building-kept =
       or-carried _ _ _ _
-      (λ e. sym (some-storey rules b) ∙ some-carried (verdict rules (knowledgeOf a)) (verdict rules (knowledgeOf b)) pairs verdicts (some-storey rules a ∙ e))
+      (λ e. sym (some-storey rules b) ∙ some-carried (verdict rules (a .header .knowledge)) (verdict rules (b .header .knowledge)) pairs verdicts (some-storey rules a ∙ e))
       (tilt-carried a b (worse .tilt1) (worse .tilt2))
 
   carried : Carried rules a b r q pairs
@@ -120,10 +119,10 @@ module _ (rules : Rules) (good : Orderly rules) (a b : Survey) (r q : BuildingAn
       record {
         members =
             each Facts (λ f g ms. EveryPair (λ m n u. Over rules a f m → Over rules b g n) ms)
-            (λ f g ms h. members-carried rules good (knowledgeOf a) (knowledgeOf b) same-level positive f g ms (h .0 .0) (h .0 .1) (h .1)) pairs facts;
+            (λ f g ms h. members-carried rules good (a .header .knowledge) (b .header .knowledge) same-level positive f g ms (h .0 .0) (h .0 .1) (h .1)) pairs facts;
         storeys =
             each Facts (λ f g ms. Risky rules a f → Risky rules b g)
-            (λ f g ms h. storey-carried rules good (knowledgeOf a) (knowledgeOf b) same-level positive f g ms (h .0 .0) (h .0 .1) (h .1)) pairs facts;
+            (λ f g ms h. storey-carried rules good (a .header .knowledge) (b .header .knowledge) same-level positive f g ms (h .0 .0) (h .0 .1) (h .1)) pairs facts;
         building = λ e. verdict-found rules b q rb ∙ building-kept (sym (verdict-found rules a r ra) ∙ e);
       }
 

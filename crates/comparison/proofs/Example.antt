@@ -5,9 +5,8 @@ use native.Mathlib.Omega.{arith}
 use mathlib.Core.Bool.{true, false}
 use mathlib.Core.List.{[], _∷_}
 use mathlib.Core.Path.{_≡_, refl}
-use Rattle.records.specs.First.{everyBelow, anyBelow, first}
+use Rattle.records.specs.Notation.{everyBelow, anyBelow, first, listed, total, anyOf}
 use Rattle.records.specs.Records.{zeroForce, headerFault, storeyFault, memberFault}
-use Rattle.records.specs.Totals.{listed, total, anyOf}
 use Rattle.records.specs.declared.Member.{Member}
 use Rattle.members.specs.declared.class.Class.the-variants.{ColumnA, ColumnC}
 use Rattle.members.specs.Class.{isWall, detailed, columnClass, wallClass, classOf}
@@ -19,9 +18,9 @@ use Rattle.storeys.specs.declared.BuildingAnswer.the-variants.{Judged}
 use Rattle.storeys.specs.Storey.{publishedRules, meetsWallShare, axialTotal, overShear, someOver, damaged, exceedsShare, riskyByDamage, storeyRisky, storeyFinding, storeyCallFault, storeyAnswerBy}
 use Rattle.checks.specs.Rows.{rowFault, memberRowsFault, membersBefore, membersOf, countsFault, storeyRowsFault, recordsFault}
 use Rattle.records.specs.Blank.{noMember}
-use Rattle.storeys.specs.Building.{riskyAt, tilted, someRisky, buildingRisky, buildingFinding, buildingAnswerBy, named}
+use Rattle.storeys.specs.Building.{riskyAt, tilted, someRisky, buildingRisky, buildingAnswerBy, named}
 use Rattle.comparison.specs.Pairing.{none, pair, EveryPair}
-use Rattle.comparison.specs.Demand3.{Survey, storeyMembersAt, Accepted, Over, Risky, BuildingRisky, StoreyPairs, AtLeastAsSevere, NowhereBetter, Carried}
+use Rattle.comparison.specs.Demand3.{Survey, storeyMembersAt, Accepted, Over, Risky, buildingRiskyIn, StoreyPairs, AtLeastAsSevere, NowhereBetter, Carried}
 use Rattle.comparison.proofs.Tests.{never}
 use Rattle.comparison.proofs.Demand3.{demand3}
 
@@ -179,10 +178,10 @@ pub record Found : Type 0 where
   pub other-accepted : Accepted publishedRules other answerOther
   pub column-over : Over publishedRules one (storeyMembersAt one 0) (member column)
   pub storey-risky : Risky publishedRules one (storeyMembersAt one 1)
-  pub building-risky : BuildingRisky answerOne
+  pub building-risky : buildingRiskyIn answerOne ≡ true
 
 pub found : Found
-unfolding everyBelow anyBelow first headerFault storeyFault memberFault detailed columnClass wallClass classOf places moments rotations interp blend columnA columnB columnC wallRows wallB mLimitAt rotationLimitAt axial moment stress hoops mLimit rotationLimit mDropped isOver findingBy answerBy total anyOf meetsWallShare axialTotal overShear someOver damaged exceedsShare riskyByDamage storeyRisky storeyFinding noMember rowFault memberRowsFault storeyCallFault storeyAnswerBy membersBefore membersOf riskyAt countsFault storeyRowsFault recordsFault tilted someRisky buildingRisky buildingFinding buildingAnswerBy
+unfolding everyBelow anyBelow first headerFault storeyFault memberFault detailed columnClass wallClass classOf places moments rotations interp blend columnA columnB columnC wallRows wallB mLimitAt rotationLimitAt axial moment stress hoops mLimit rotationLimit mDropped isOver findingBy answerBy total anyOf meetsWallShare axialTotal overShear someOver damaged exceedsShare riskyByDamage storeyRisky storeyFinding noMember rowFault memberRowsFault storeyCallFault storeyAnswerBy membersBefore membersOf riskyAt countsFault storeyRowsFault recordsFault tilted someRisky buildingRisky buildingAnswerBy
 found =
     record {
       one-accepted = record { answers = record { same = refl; place = named 1 (omega arith) refl }; no-refusal = refl };
@@ -197,6 +196,6 @@ pub carried : Carried publishedRules one other answerOne answerOther pairs
 carried = demand3 one other answerOne answerOther (found .one-accepted) (found .other-accepted) pairs met
 
 -- so the partners are over and Risky
-pub partners : Over publishedRules other (storeyMembersAt other 1) (member columnLater) × Risky publishedRules other (storeyMembersAt other 0) × BuildingRisky answerOther
+pub partners : Over publishedRules other (storeyMembersAt other 1) (member columnLater) × Risky publishedRules other (storeyMembersAt other 0) × (buildingRiskyIn answerOther ≡ true)
 unfolding pairs listed membersBefore membersOf EveryPair
 partners = (carried .members .0 .0 (found .column-over), carried .storeys .1 .0 (found .storey-risky), carried .building (found .building-risky))

@@ -5,7 +5,7 @@ use mathlib.Core.Bool.{Bool, true, false, _||_}
 use mathlib.Core.List.{List, [], _∷_, _++_}
 use mathlib.Core.Path.{_≡_, refl, sym, ap, _∙_}
 use lib.ListN.{length, getD}
-use Rattle.records.specs.Totals.{listed, total, anyOf}
+use Rattle.records.specs.Notation.{listed, total, anyOf}
 use Rattle.comparison.specs.Pairing.{Pairing, none, pair, EveryPair}
 use Rattle.comparison.proofs.Tests.{or-carried}
 

@@ -4,7 +4,7 @@ use native.Mathlib.Omega.{arith}
 use mathlib.Core.Bool.{Bool, true, false, _&&_}
 use mathlib.Core.Path.{_≡_, refl, sym, ap, _∙_}
 use lib.Dec.{leb}
-use Rattle.records.specs.First.{pick}
+use Rattle.records.specs.Notation.{pick}
 use Rattle.records.specs.Valid.{Valid}
 use Rattle.records.specs.declared.Member.{Member}
 use Rattle.members.specs.declared.class.Class.the-variants.{ColumnC, WallA, WallB}

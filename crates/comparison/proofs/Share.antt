@@ -7,7 +7,7 @@ use mathlib.Core.Bool.{Bool, true, false}
 use mathlib.Core.Path.{_≡_, refl, ap}
 use lib.Dec.{leb, ltb}
 use borrow.Author.Tests.{leb-true, leb-false}
-use Rattle.records.specs.First.{pick}
+use Rattle.records.specs.Notation.{pick}
 use Rattle.members.specs.declared.tables.Two.{Two}
 use Rattle.storeys.specs.Storey.{exceedsShare}
 use Rattle.comparison.proofs.Tests.{ltb-carried}

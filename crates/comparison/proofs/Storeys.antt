@@ -8,7 +8,7 @@ use mathlib.Core.Path.{_≡_, refl, sym, subst}
 use lib.Dec.{ltb}
 use lib.ListN.{length}
 use borrow.Author.Tests.{ltb-true}
-use Rattle.records.specs.First.{pick}
+use Rattle.records.specs.Notation.{pick}
 use Rattle.records.specs.Valid.{Valid}
 use Rattle.records.specs.declared.Member.{Member}
 use Rattle.records.proofs.Below.{and-left, and-right}

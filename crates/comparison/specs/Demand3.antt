@@ -1,25 +1,10 @@
 -- Demand 3 of the mission: a survey that is nowhere better never clears a member, a storey or a building. Its words, then the claim.
-use Prim.Native.Nat.{ℕ, _≤_}
-use mathlib.Core.Bool.{Bool, true, false}
-use mathlib.Core.List.{List}
-use mathlib.Core.Path.{_≡_}
-use lib.ListN.{length}
-use Rattle.records.specs.Totals.{listed}
-use Rattle.records.specs.declared.Header.{Header}
-use Rattle.records.specs.declared.Storey.{Storey}
-use Rattle.records.specs.declared.Member.{Member}
-use Rattle.members.specs.declared.class.Class.the-variants.{ColumnC}
-use Rattle.members.specs.declared.finding.MemberAnswer.{MemberAnswer}
-use Rattle.members.specs.declared.finding.MemberAnswer.the-variants.{Judged as JudgedMember, Refused as RefusedMember}
-use Rattle.members.specs.Class.{isWall, classOf}
-use Rattle.members.specs.Finding.{answerBy}
-use Rattle.storeys.specs.declared.StoreyAnswer.{StoreyAnswer}
-use Rattle.storeys.specs.declared.StoreyAnswer.the-variants.{Judged as JudgedStorey, Refused as RefusedStorey}
-use Rattle.storeys.specs.declared.BuildingAnswer.{BuildingAnswer}
-use Rattle.storeys.specs.declared.BuildingAnswer.the-variants.{Judged as JudgedBuilding, Refused as RefusedBuilding}
-use Rattle.storeys.specs.Storey.{Rules, publishedRules, meetsWallShare, storeyAnswerBy}
-use Rattle.checks.specs.Rows.{storeyIn, membersOf}
-use Rattle.storeys.specs.Building.{Answers, returnedBuilding}
+use Rattle.records.specs.Notation.{ℕ, _≤_, Bool, true, false, List, _≡_, length, listed}
+use Rattle.checks.specs.Rows.{Header, Storey, Member, storeyIn, membersOf}
+use Rattle.members.specs.declared.finding.MemberAnswer.{MemberAnswer, the-variants.Judged as JudgedMember, the-variants.Refused as RefusedMember}
+use Rattle.storeys.specs.declared.{StoreyAnswer.StoreyAnswer, StoreyAnswer.the-variants.Judged as JudgedStorey, StoreyAnswer.the-variants.Refused as RefusedStorey, BuildingAnswer.BuildingAnswer, BuildingAnswer.the-variants.Judged as JudgedBuilding, BuildingAnswer.the-variants.Refused as RefusedBuilding}
+use Rattle.members.specs.{declared.class.Class.the-variants.ColumnC, Class.isWall, Class.classOf, Finding.answerBy}
+use Rattle.storeys.specs.{Storey.Rules, Storey.publishedRules, Storey.meetsWallShare, Storey.storeyAnswerBy, Building.Answers, Building.returnedBuilding}
 use Rattle.comparison.specs.Pairing.{Pairing, EveryPair}
 
 -- SURVEY: "a header with its storeys and members as records", which are the arguments of the call on a building
@@ -27,10 +12,6 @@ pub record Survey : Type 0 where
   pub header : Header
   pub storeys : List Storey
   pub members : List Member
-
--- the knowledge level k of a survey
-abbrev pub knowledgeOf : Survey → ℕ
-knowledgeOf a = a .header .knowledge
 
 -- a storey with its members
 pub record StoreyMembers : Type 0 where
@@ -64,13 +45,10 @@ buildingRiskyIn (JudgedBuilding f) = f .risky
 buildingRiskyIn (RefusedBuilding n) = false
 
 abbrev pub Over : Rules → Survey → StoreyMembers → Member → Type 0
-Over rules a f m = overIn (answerBy (rules .limits) (knowledgeOf a) (meetsWallShare (f .storey .shear) (f .members)) m) ≡ true
+Over rules a f m = overIn (answerBy (rules .limits) (a .header .knowledge) (meetsWallShare (f .storey .shear) (f .members)) m) ≡ true
 
 abbrev pub Risky : Rules → Survey → StoreyMembers → Type 0
-Risky rules a f = riskyIn (storeyAnswerBy rules (knowledgeOf a) (f .storey) (f .members)) ≡ true
-
-abbrev pub BuildingRisky : BuildingAnswer → Type 0
-BuildingRisky r = buildingRiskyIn r ≡ true
+Risky rules a f = riskyIn (storeyAnswerBy rules (a .header .knowledge) (f .storey) (f .members)) ≡ true
 
 -- PAIRED OFF: "any way of pairing off all their storeys one to one, and each storey's members with those of its partner, in whatever order
 -- either lists them"
@@ -129,18 +107,18 @@ pub record AtLeastAsSevereStorey (k : ℕ) (f g : StoreyMembers) (ms : MemberPai
 -- of two surveys and their storeys' pairs
 pub record NowhereBetter (a b : Survey) (pairs : StoreyPairs a b) : Type 0 where
   -- "equal knowledge level"
-  pub knowledge : knowledgeOf a ≡ knowledgeOf b
+  pub knowledge : a .header .knowledge ≡ b .header .knowledge
   -- "no .. tilt": each against the one in the same field
   pub tilt1 : a .header .tilt1 ≤ b .header .tilt1
   pub tilt2 : a .header .tilt2 ≤ b .header .tilt2
-  pub storeys : EveryPair (λ f g ms. AtLeastAsSevereStorey (knowledgeOf a) f g ms) pairs
+  pub storeys : EveryPair (λ f g ms. AtLeastAsSevereStorey (a .header .knowledge) f g ms) pairs
 
 -- CARRIED, over the same pairs: "every member over in the first has a partner over in the second, every storey Risky in the first has a partner Risky in
 -- the second, and where the first building is Risky, so is the second"
 pub record Carried (rules : Rules) (a b : Survey) (r q : BuildingAnswer) (pairs : StoreyPairs a b) : Type 0 where
   pub members : EveryPair (λ f g ms. EveryPair (λ m n u. Over rules a f m → Over rules b g n) ms) pairs
   pub storeys : EveryPair (λ f g ms. Risky rules a f → Risky rules b g) pairs
-  pub building : BuildingRisky r → BuildingRisky q
+  pub building : buildingRiskyIn r ≡ true → buildingRiskyIn q ≡ true
 
 -- DEMAND 3: "Take any two accepted surveys and any way of pairing off all their storeys one to one, and each storey's members with those of its partner":
 -- where the second is nowhere better, every finding is carried. By any rules, and by the published ones

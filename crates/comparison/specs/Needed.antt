@@ -4,10 +4,10 @@ use Prim.Native.Nat.{ℕ, _+_}
 use mathlib.Core.List.{List, [], _∷_, _++_, map}
 use mathlib.Core.Path.{_≡_}
 use lib.ListN.{take}
-use Rattle.records.specs.First.{everyBelow, first}
 use Rattle.records.specs.Records.{zeroForce}
 use Rattle.members.specs.Finding.{hoops}
-use Rattle.storeys.specs.Building.{buildingReturned}
+use Rattle.storeys.specs.Storey.{publishedRules}
+use Rattle.storeys.specs.Building.{buildingAnswerBy, returnedBuilding}
 use Rattle.comparison.specs.Demand3.{Survey}
 
 -- what the surveys below differ in
@@ -140,7 +140,7 @@ needed =
 abbrev pub answer : Given → List ℕ
 answer g =
     let a : Survey = neededSurvey g in
-    let r = buildingReturned (a .header) (a .storeys) (a .members) 0 in
+    let r = returnedBuilding (buildingAnswerBy publishedRules (a .header) (a .storeys) (a .members) 0) in
     r .refusal ∷ take 2 (r .values)
 
 -- all are accepted, and each time the first building is Risky and the second not

@@ -17,9 +17,8 @@ use Rattle.report.specs.declared.ReportAnswer.{ReportAnswer}
 use Rattle.columns.specs.Line.{atFront, putLength}
 use Rattle.report.specs.Sheet.{sheet, refusalLine, reportFault, reportAnswer, returnedReport, reportReturned, bufferAfter}
 use Rattle.report.proofs.Returned.{report-answer-is}
-use Rattle.records.specs.First.{everyBelow}
+use Rattle.records.specs.Notation.{everyBelow, total}
 use Rattle.records.specs.Records.{headerFault}
-use Rattle.records.specs.Totals.{total}
 use Rattle.storeys.specs.Building.{}
 use Rattle.checks.specs.Rows.{countsFault, recordsFault}
 use Rattle.report.proofs.Called.{sheet-fits}

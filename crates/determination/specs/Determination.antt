@@ -1,10 +1,6 @@
 -- What `determine` prints (document 01, "The printed sheet"): "The program `determine` reads up to 65,536 bytes of standard input, lends rows for 320 members and
 -- 10 storeys, prints the sheet, or one line `E` with refusal and line; a longer input prints `E` with 8 and 0".
-use Prim.Native.Nat.{ℕ}
-use mathlib.Core.List.{List}
-use lib.Dec.{leb, eqb}
-use lib.ListN.{length}
-use Rattle.records.specs.First.{pick}
+use Rattle.records.specs.Notation.{ℕ, List, leb, eqb, length, pick}
 use Rattle.reading.specs.Survey.{Outcome, accepted, refused, survey}
 use Rattle.report.specs.Sheet.{sheet, reportFault, refusalLine}
 

@@ -5,16 +5,14 @@ use mathlib.Core.List.{List, [], _∷_, map}
 use mathlib.Core.Path.{_≡_}
 use lib.Dec.{eqb}
 use lib.ListN.{length, getD, take}
-use Rattle.records.specs.First.{pick, everyBelow, first}
+use Rattle.records.specs.Notation.{pick, listed}
 use Rattle.records.specs.Records.{zeroForce}
-use Rattle.records.specs.Totals.{listed}
 use Rattle.records.specs.declared.Header.{Header}
 use Rattle.records.specs.declared.Storey.{Storey}
 use Rattle.records.specs.declared.Member.{Member}
-use Rattle.members.specs.Class.{detailed}
-use Rattle.members.specs.Finding.{moment, hoops, memberReturned}
-use Rattle.storeys.specs.Storey.{storeyReturned}
-use Rattle.storeys.specs.Building.{buildingReturned}
+use Rattle.members.specs.Finding.{hoops, memberReturned}
+use Rattle.storeys.specs.Storey.{publishedRules, storeyReturned}
+use Rattle.storeys.specs.Building.{buildingAnswerBy, returnedBuilding}
 
 -- a member whose n is N_K and whose n_D is N_D, ρ 25 × A_sh, and with a short side of 100 v 10 × V_e
 pub record Case : Type 0 where
@@ -91,7 +89,7 @@ abbrev pub tilt : ℕ → ℕ → List ℕ
 tilt t1 t2 =
     let h : Header = record { knowledge = 100; height = 9_000; storeys = 3; tilt1 = t1; tilt2 = t2; count = 1 } in
     let ms : List Member = loaded 1 0 0 0 0 ∷ [] in
-    take 2 (buildingReturned h (edgeStorey ms ∷ []) ms 0 .values)
+    take 2 (returnedBuilding (buildingAnswerBy publishedRules h (edgeStorey ms ∷ []) ms 0) .values)
 
 -- members 1 to n, the first with damage kind 4
 abbrev pub oneDamaged : ℕ → List Member

@@ -7,7 +7,7 @@ use mathlib.Core.Path.{_≡_, refl}
 use lib.Dec.{ltb, eqb, eqb·suc-zero}
 use lib.ListN.{length}
 use borrow.Author.Tests.{eqb-true}
-use Rattle.records.specs.First.{pick, inOrder, first}
+use Rattle.records.specs.Notation.{pick, inOrder, first}
 use Rattle.records.specs.Records.{storeyFault, repeated}
 use Rattle.records.specs.declared.Tag.the-variants.{S}
 use Rattle.format.specs.Lines.{fieldsFault, headerAt}

@@ -4,7 +4,7 @@ use mathlib.Core.List.{List, [], _∷_}
 use mathlib.Core.Path.{_≡_}
 use lib.Dec.{leb}
 use lib.ListN.{length}
-use Rattle.records.specs.First.{pick}
+use Rattle.records.specs.Notation.{pick}
 use Rattle.members.specs.Finding.{Returned}
 use Rattle.words.specs.Words.{packed}
 use Rattle.reading.specs.Answer.{Told, filled, refusal}

@@ -10,7 +10,7 @@ use lib.Dec.{leb, ltb, eqb, eqb·suc-zero}
 use lib.ListN.{length, take, drop, getD}
 use lib.Seq.{drop-cons}
 use borrow.Author.Tests.{eqb-true, ltb-true, lt-ltb, le-ltb, eq-eqb, ne-eqb, leb-true}
-use Rattle.records.specs.First.{pick}
+use Rattle.records.specs.Notation.{pick}
 use Rattle.format.specs.Spelling.{column, spelled, same, pushed, value}
 use Rattle.records.proofs.Below.{and-left, and-right}
 

@@ -4,18 +4,18 @@ use native.Mathlib.Omega.{arith}
 use native.Mathlib.Nat.{not-suc-le-zero}
 use mathlib.Core.Bool.{Bool, true, false, _&&_}
 use mathlib.Core.List.{List}
-use mathlib.Core.Option.{Option, some, none}
+use mathlib.Core.Option.{Option, some, none, Option·getD}
 use mathlib.Core.Path.{_≡_, refl, sym, _∙_}
 use lib.Dec.{leb}
 use lib.ListN.{length, take, drop, getD, set, length-set}
 use lib.Seq.{getD-set-same, getD-set-other}
 use borrow.Author.Count.{below-more}
 use borrow.Author.Tests.{leb-true, leb-false, le-leb, lt-leb}
-use Rattle.records.specs.First.{pick, everyBelow, first}
+use Rattle.records.specs.Notation.{pick, everyBelow, first}
 use Rattle.records.specs.Records.{Allowed, allows, never, ranges, fields, inRange}
 use Rattle.format.specs.Spelling.{fieldOf}
-use Rattle.format.specs.Field.{fieldStep, numberOf, nextOf, optionOf, faultOf, holdsFields, FieldsHeld, FieldsOf}
-use Rattle.format.specs.Lines.{isForce, fieldAt, numberIn, isWritten, valueAt, faultIn, fieldFault, fieldsFault}
+use Rattle.format.specs.Steps.{numberOf, nextOf, optionOf, faultOf, FieldsHeld}
+use Rattle.format.specs.Lines.{isForce, fieldAt, isWritten, valueAt, faultIn, fieldFault, fieldsFault, fieldStep, holdsFields, FieldsOf}
 use Rattle.format.specs.declared.cursor.Cursor.{Cursor}
 use Rattle.format.specs.declared.cursor.Field.{Field}
 use Rattle.format.specs.declared.lines.Fields.{Fields}
@@ -24,7 +24,7 @@ use Rattle.records.specs.declared.Tag.the-variants.{B, S, M}
 use Rattle.records.proofs.Firsts.{first-none, first-next, first-kept, first-zero}
 use Rattle.records.proofs.Below.{agree, every-none, every-next, every-at}
 
-number-step : (o : Option ℕ) (next : ℕ) → numberOf (fieldStep o next) ≡ numberIn o
+number-step : (o : Option ℕ) (next : ℕ) → numberOf (fieldStep o next) ≡ Option·getD o 0
 number-step (some v) next = refl
 number-step none next = refl
 
@@ -127,7 +127,7 @@ module _ (t : Tag) (s : List ℕ) (at : ℕ) where
         }
 
 -- ---- all written and in their ranges: no refusal
-no-fault : (o : Option ℕ) (a : Allowed) → isWritten o ≡ true → allows a (numberIn o) ≡ true → faultIn o a ≡ 0
+no-fault : (o : Option ℕ) (a : Allowed) → isWritten o ≡ true → allows a (Option·getD o 0) ≡ true → faultIn o a ≡ 0
 no-fault (some v) a w e = rw e
 no-fault none a w e = let z : _≡_ {A = ℕ} 0 1 = cc in absurd (omega arith)
 

@@ -9,8 +9,7 @@ use lib.ListN.{length, drop, getD, length-drop}
 use lib.Seq.{getD-drop}
 use borrow.Author.Tests.{eqb-true, eqb-false, ltb-true, eq-eqb, lt-ltb}
 use Rattle.records.specs.Records.{fields}
-use Rattle.format.specs.Field.{framed}
-use Rattle.format.specs.Lines.{tagByte, lineEnd, shaped, valueAt, fieldsFault}
+use Rattle.format.specs.Lines.{tagByte, lineEnd, shaped, valueAt, fieldsFault, framed}
 use Rattle.records.specs.declared.Tag.{Tag}
 use Rattle.records.proofs.Below.{and-left, and-right}
 use Rattle.format.proofs.Held.{numbers, length-numbers}

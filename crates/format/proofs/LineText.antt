@@ -4,15 +4,15 @@ use native.Mathlib.Omega.{arith}
 use native.Mathlib.Nat.{not-suc-le-zero}
 use mathlib.Core.Bool.{Bool, true, false}
 use mathlib.Core.List.{List, [], _∷_, _++_, append-assoc}
-use mathlib.Core.Option.{Option, some, none}
+use mathlib.Core.Option.{Option, some, none, Option·getD}
 use mathlib.Core.Path.{_≡_, refl, ap, sym, _∙_}
 use lib.Dec.{eqb}
 use lib.ListN.{length, take, drop, getD, length-drop, take-append-drop}
 use lib.Seq.{drop-cons, drop-drop, getD-drop}
 use borrow.Author.Tests.{eqb-true}
-use Rattle.records.specs.First.{pick}
+use Rattle.records.specs.Notation.{pick}
 use Rattle.records.specs.Records.{Allowed, fields, headerValues, storeyValues, memberValues}
-use Rattle.format.specs.Lines.{tagByte, lineEnd, shaped, isForce, fieldAt, numberIn, valueAt, faultIn, fieldFault, fieldsFault, headerAt, storeyAt, memberAt}
+use Rattle.format.specs.Lines.{tagByte, lineEnd, shaped, isForce, fieldAt, valueAt, faultIn, fieldFault, fieldsFault, headerAt, storeyAt, memberAt}
 use Rattle.format.specs.Text.{fieldText, fieldsText, lineText}
 use Rattle.records.specs.declared.Tag.{Tag}
 use Rattle.records.specs.declared.Tag.the-variants.{B, S, M}
@@ -37,7 +37,7 @@ unfolding lineEnd
 end-byte [] h = absurd (not-suc-le-zero h)
 end-byte (b ∷ l) h = by-byte (eqb b 10) b (lineEnd l) l refl (end-byte l) h
 
-held : (o : Option ℕ) (a : Allowed) → faultIn o a ≡ 0 → o ≡ some (numberIn o)
+held : (o : Option ℕ) (a : Allowed) → faultIn o a ≡ 0 → o ≡ some (Option·getD o 0)
 held (some v) a e = refl
 held none a e = let z : ⊥ = omega (arith, e) in absurd z
 

@@ -11,8 +11,9 @@ use lib.Dec.{leb, ltb, eqb}
 use lib.ListN.{length, take, drop, getD, length-drop}
 use lib.Seq.{length-take-le}
 use borrow.Author.Tests.{ltb-true, leb-true, eqb-true, eqb-false, lt-ltb, le-leb, eq-eqb, ne-eqb, not-true}
-use Rattle.records.specs.First.{pick}
-use Rattle.format.specs.Field.{goesOn, fieldStep}
+use Rattle.records.specs.Notation.{pick}
+use Rattle.format.specs.Steps.{goesOn}
+use Rattle.format.specs.Lines.{fieldStep}
 use Rattle.records.specs.Records.{zeroForce}
 use Rattle.format.specs.declared.cursor.Cursor.{Cursor}
 use Rattle.format.specs.declared.cursor.Field.the-variants.{Number, Refused}

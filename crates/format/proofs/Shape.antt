@@ -10,8 +10,7 @@ use lib.ListN.{length, drop, getD, length-drop, drop-of-length-le}
 use lib.Seq.{drop-cons, getD-drop}
 use borrow.Author.Tests.{eq-eqb, ne-eqb, lt-ltb, le-ltb, ltb-true, ltb-false}
 use Rattle.records.specs.Records.{fields}
-use Rattle.format.specs.Field.{framed}
-use Rattle.format.specs.Lines.{tagByte, lineEnd, shaped}
+use Rattle.format.specs.Lines.{tagByte, lineEnd, shaped, framed}
 use Rattle.records.specs.declared.Tag.{Tag}
 use Rattle.records.specs.declared.Tag.the-variants.{B, S, M}
 use Rattle.records.proofs.Below.{agree, and-right}

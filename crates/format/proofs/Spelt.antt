@@ -10,7 +10,7 @@ use mathlib.Core.Path.{_≡_, refl, ap, sym, _∙_}
 use lib.Dec.{leb, ltb, eqb, eqb·suc-zero}
 use lib.ListN.{getD}
 use borrow.Author.Tests.{eqb-true, leb-true, leb-false, ltb-true, ltb-false, lt-ltb, le-ltb, eq-eqb, le-leb, lt-leb}
-use Rattle.records.specs.First.{pick}
+use Rattle.records.specs.Notation.{pick}
 use Rattle.records.specs.Records.{zeroForce}
 use Rattle.format.specs.Spelling.{column, spelled, same, pushed, value, written, minusOf, fieldOf}
 use Rattle.format.specs.Text.{Spellable, fieldText}

@@ -4,16 +4,16 @@ use native.Mathlib.Omega.{arith}
 use native.Mathlib.Nat.{not-suc-le-zero, le-of-suc-le-suc}
 use mathlib.Core.Bool.{Bool, true, false, _&&_, _||_}
 use mathlib.Core.List.{List, [], _∷_, _++_, append-assoc}
-use mathlib.Core.Option.{some}
+use mathlib.Core.Option.{Option, some, Option·getD}
 use mathlib.Core.Path.{_≡_, refl, ap, sym, _∙_}
 use lib.Dec.{leb, ltb, eqb}
 use lib.ListN.{length, take, drop, getD, length-append}
 use lib.Seq.{drop-drop, take-at, drop-append-add}
 use borrow.Author.Tests.{leb-true, le-leb, eqb-true, eq-eqb, ne-eqb, lt-ltb}
-use Rattle.records.specs.First.{pick, everyBelow}
+use Rattle.records.specs.Notation.{pick, everyBelow}
 use Rattle.records.specs.Records.{Allowed, between, either, allows, never, zeroForce, ranges, fields, inRange, headerValues, storeyValues, memberValues, headerFault, storeyFault, memberFault}
 use Rattle.format.specs.Spelling.{column, spelled}
-use Rattle.format.specs.Lines.{tagByte, lineEnd, shaped, isForce, fieldAt, numberIn, valueAt, fieldFault, headerAt, storeyAt, memberAt}
+use Rattle.format.specs.Lines.{tagByte, lineEnd, shaped, isForce, fieldAt, valueAt, fieldFault, headerAt, storeyAt, memberAt}
 use Rattle.format.specs.Text.{Spellable, fieldText, fieldsText, lineText}
 use Rattle.records.specs.declared.Header.{Header}
 use Rattle.records.specs.declared.Storey.{Storey}
@@ -186,7 +186,7 @@ module _ (tag : Tag) (s : List ℕ) (at : ℕ) (vs rest : List ℕ) (p : drop at
       rw (q, ← drop-drop (1 + 8 * j) at s, p, line-field tag vs rest j (omega arith)) (read-field (isForce tag j) (getD vs j 0) (spellable tag vs r j h))
 
   value-is : (j : ℕ) → j < fields tag → valueAt tag s at j ≡ getD vs j 0
-  value-is j h = ap numberIn (field-is j h)
+  value-is j h = ap (λ (o : Option ℕ). Option·getD o 0) (field-is j h)
 
   fault-none : (j : ℕ) → j < fields tag → fieldFault tag s at j ≡ 0
   unfolding fieldFault

@@ -11,7 +11,7 @@ use borrow.Author.Tests.{eqb-true, eq-eqb, ne-eqb, lt-ltb}
 use Rattle.records.specs.Records.{zeroForce}
 use Rattle.format.specs.Spelling.{spelled, same, value, written, minusOf}
 use Rattle.format.specs.declared.cursor.Field.the-variants.{Number, Refused}
-use Rattle.format.specs.Field.{fieldStep}
+use Rattle.format.specs.Lines.{fieldStep}
 use Rattle.records.proofs.Below.{and-left, and-right}
 use Rattle.format.proofs.Columns.{same-eq, blank-small}
 

@@ -1,4 +1,4 @@
 pub mod Spelling
 pub mod Lines
-pub mod Field
+pub mod Steps
 pub mod Text

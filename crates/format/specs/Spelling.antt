@@ -1,12 +1,6 @@
 -- The spelling of a number in columns (document 01, "The survey record": right-justified, blanks to its left, no leading zero).
 -- A byte is its number: 32 is the blank, 45 the minus, 48 to 57 the digits, 10 the LF.
-use Prim.Native.Nat.{ℕ, zero, suc, _+_, _-_, _*_, _/_, _%_}
-use mathlib.Core.Bool.{Bool, true, false, _&&_}
-use mathlib.Core.List.{List, [], _∷_}
-use mathlib.Core.Option.{Option, some, none}
-use lib.Dec.{leb, ltb, eqb}
-use lib.ListN.{getD}
-use Rattle.records.specs.First.{pick}
+use Rattle.records.specs.Notation.{ℕ, zero, suc, _+_, _-_, _*_, _/_, _%_, Bool, true, false, _&&_, List, [], _∷_, Option, some, none, leb, ltb, eqb, getD, pick}
 use Rattle.records.specs.Records.{zeroForce}
 
 -- column j of n, counted from the right: the last holds the units; a number below ten has its sign directly before it and blanks

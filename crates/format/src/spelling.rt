@@ -3,7 +3,7 @@ ghost use mathlib.Core.Path.{_≡_};
 ghost use Prim.Native.Nat.{_+_, _<_, _≤_};
 ghost use lib.ListN.{length, take, drop};
 ghost use Rattle.format.specs.Spelling.{column, spelled, same, pushed, value};
-ghost use Rattle.format.specs.Field.{goesOn};
+ghost use Rattle.format.specs.Steps.{goesOn};
 
 // Column j of n, counted from the right, with the sign that stands before its first digit.
 pub(crate) fn column_of(sign: u8, n: u64, j: usize) -> u8

@@ -12,13 +12,13 @@ use Rattle.members.specs.declared.limits.Ratios.{Ratios}
 use Rattle.members.specs.declared.tables.LimitSet.{LimitSet}
 use Rattle.members.specs.declared.units.Ratio.{Ratio}
 use Rattle.members.specs.declared.units.Microradians.{Microradians}
-use Rattle.members.specs.Units.{microradians}
 use Rattle.members.specs.Class.{classOf}
 use Rattle.members.specs.Tables.{published, places, moments, rotations}
 use Rattle.members.specs.Limits.{mLimitAt, rotationLimitAt}
 use Rattle.members.specs.Sizes.{SizedSet}
 use Rattle.members.specs.Finding.{axialRatioD, momentRatio, mLimit, rotationLimit, mDropped, exceeds, isOver, findingBy, knowledge}
 use Rattle.members.specs.Assembly.{ratios}
+use Rattle.members.proofs.Rounding.{microradians}
 
 module _ (s : LimitSet) (k : ℕ) (met : Bool) (m : Member) where
   pub assembled : {class : Class} {at : Ratios} {ratio limit nd : Ratio} {rotation allowed : Microradians} {dropped over : Bool} → class ≡ classOf k m → at ≡ ratios m → ratio ≡ momentRatio k m → rotation ≡ microradians (m .case .rotation) → limit ≡ mLimitAt s class (m .zone) (m .strengthened) (at .n .0) (at .v .0) (at .rho .0) → allowed ≡ rotationLimitAt s class (m .zone) (m .strengthened) (m .factor) (at .n .0) (at .v .0) (at .rho .0) → dropped ≡ mDropped k met m → over ≡ exceeds dropped (ratio .0) (limit .0) (rotation .0) (allowed .0) → nd ≡ axialRatioD m → _≡_ {A = Finding} (record { class = class; m = ratio; «m_limit» = limit; rotation = rotation; «rotation_limit» = allowed; over = over; nd = nd }) (findingBy s k met m)

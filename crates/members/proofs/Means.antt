@@ -7,7 +7,7 @@ use mathlib.Core.List.{List, [], _∷_}
 use mathlib.Core.Path.{_≡_}
 use mathlib.Core.Bool.{Bool, true, false}
 use lib.Dec.{eqb}
-use Rattle.records.specs.First.{pick}
+use Rattle.records.specs.Notation.{pick}
 use Rattle.members.specs.declared.class.Class.{Class}
 use Rattle.members.specs.declared.class.Class.the-variants.{ColumnA, ColumnB, ColumnC, WallA, WallB}
 use Rattle.members.specs.declared.limits.Row.{Row}

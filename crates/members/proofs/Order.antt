@@ -9,7 +9,7 @@ use lib.Dec.{eqb}
 use lib.ListN.{getD}
 use borrow.Author.Tests.{leb-true, ltb-true, eqb-true}
 use Rattle.records.proofs.Below.{and-left, and-right}
-use Rattle.records.specs.First.{pick}
+use Rattle.records.specs.Notation.{pick}
 use Rattle.members.specs.declared.class.Class.{Class}
 use Rattle.members.specs.declared.class.Class.the-variants.{ColumnA, ColumnB, ColumnC, WallA, WallB}
 use Rattle.members.specs.declared.limits.Fraction.{Fraction}

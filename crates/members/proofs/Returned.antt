@@ -5,15 +5,15 @@ use mathlib.Core.List.{List, [], _∷_}
 use mathlib.Core.Path.{_≡_, refl, ap, sym, _∙_}
 use lib.Dec.{eqb}
 use lib.ListN.{getD}
-use Rattle.records.specs.First.{pick}
+use Rattle.records.specs.Notation.{pick}
 use Rattle.members.specs.declared.class.Class.{Class}
 use Rattle.members.specs.declared.class.Class.the-variants.{ColumnA, ColumnB, ColumnC, WallA, WallB}
 use Rattle.members.specs.declared.finding.Finding.{Finding}
 use Rattle.members.specs.declared.finding.MemberAnswer.{MemberAnswer}
 use Rattle.members.specs.declared.finding.MemberAnswer.the-variants.{Judged, Refused}
-use Rattle.members.specs.Units.{ratio, microradians}
+use Rattle.members.proofs.Rounding.{ratio, microradians}
 use Rattle.members.specs.Class.{code}
-use Rattle.members.specs.Finding.{Returned, flag, findingValues, returned}
+use Rattle.members.specs.Finding.{Returned, flag, returned}
 
 abbrev class-of : ℕ → Class
 class-of n = pick (eqb n 1) ColumnA (pick (eqb n 2) ColumnB (pick (eqb n 3) ColumnC (pick (eqb n 4) WallA WallB)))
@@ -41,7 +41,7 @@ finding-of vs =
       nd = ratio (getD vs 6 0);
     }
 
-finding-told : (f : Finding) → finding-of (findingValues f) ≡ f
+finding-told : (f : Finding) → finding-of (returned (Judged f) .values) ≡ f
 finding-told f = rw (class-told (f .class), flag-told (f .over))
 
 abbrev answer-by : ℕ → List ℕ → MemberAnswer

@@ -1,10 +1,21 @@
 -- Ratios keep order under rounding and cap; and what rounding up means.
-use Prim.Native.Nat.{ℕ, _+_, _-_, _*_, _/_, _≤_, _<_}
+use Prim.Native.Nat.{ℕ, _+_, _-_, _*_, _/_, _≤_, _<_, min}
 use native.Mathlib.Omega.{arith}
 use native.Mathlib.Nat.{div-lt-iff-lt-mul, lt-div-mul-add, mul-le-mul-left, mul-le-mul-right, mul-pos, le-div-iff-mul-le, div-mul-le-self}
-use Rattle.members.specs.Units.{floor, ceiling, ratioUp, ratioScale, hoopDown, hoopScale, microradians, microCap, microDown, microSteps}
+use Rattle.members.specs.Units.{Ratio, HoopRatio, Microradians, ceiling, ratioCap, ratioUp, hoopDown, microSteps}
+use Rattle.members.specs.Sizes.{microCap, microDown}
 use mathlib.Core.Path.{_≡_, ap}
 use Rattle.members.specs.Finding.{axial, moment, stress, hoops, compression}
+
+-- a number in each unit
+abbrev pub ratio : ℕ → Ratio
+ratio n = record { 0 = n }
+
+abbrev pub hoop : ℕ → HoopRatio
+hoop n = record { 0 = n }
+
+abbrev pub microradians : ℕ → Microradians
+microradians n = record { 0 = n }
 
 -- the quotient rounded up is the least number whose multiple covers what is divided
 pub ceiling-covers : (a b : ℕ) → 0 < b → a ≤ ceiling a b * b
@@ -20,16 +31,21 @@ pub ceiling-mono : {a a' b b' : ℕ} → a ≤ a' → b' ≤ b → 0 < b' → ce
 ceiling-mono {a} {a'} {b} {b'} h k p =
     ceiling-least a b (ceiling a' b') (omega arith) (omega (arith, ceiling-covers a' b' p, mul-le-mul-left (ceiling a' b') k))
 
-pub ratio-mono : {a a' b b' : ℕ} → a ≤ a' → b' ≤ b → 0 < b' → ratioUp a b .0 ≤ ratioUp a' b' .0
-ratio-mono {a} {a'} {b} {b'} h k p =
-    omega (arith, ceiling-mono {a = a * ratioScale} {a' = a' * ratioScale} {b = b} {b' = b'} (mul-le-mul-right ratioScale h) k p)
+scaled-up : (scale : ℕ) {a a' b b' : ℕ} → a ≤ a' → b' ≤ b → 0 < b' → min ratioCap (ceiling (a * scale) b) ≤ min ratioCap (ceiling (a' * scale) b')
+scaled-up scale {a} {a'} {b} {b'} h k p =
+    omega (arith, ceiling-mono {a = a * scale} {a' = a' * scale} {b = b} {b' = b'} (mul-le-mul-right scale h) k p)
 
-floor-mono : {a a' : ℕ} (b : ℕ) → a' ≤ a → 0 < b → floor a' b ≤ floor a b
-floor-mono {a} {a'} b h p = le-div-iff-mul-le p .1 (omega (arith, div-mul-le-self a' b))
+pub ratio-mono : {a a' b b' : ℕ} → a ≤ a' → b' ≤ b → 0 < b' → ratioUp a b .0 ≤ ratioUp a' b' .0
+ratio-mono h k p = scaled-up _ h k p
+
+quotient-mono : {a a' : ℕ} (b : ℕ) → a' ≤ a → 0 < b → a' / b ≤ a / b
+quotient-mono {a} {a'} b h p = le-div-iff-mul-le p .1 (omega (arith, div-mul-le-self a' b))
+
+scaled-down : (scale : ℕ) {a a' : ℕ} (b : ℕ) → a' ≤ a → 0 < b → min ratioCap (a' * scale / b) ≤ min ratioCap (a * scale / b)
+scaled-down scale {a} {a'} b h p = omega (arith, quotient-mono {a = a * scale} {a' = a' * scale} b (mul-le-mul-right scale h) p)
 
 pub hoop-mono : {a a' : ℕ} (b : ℕ) → a' ≤ a → 0 < b → hoopDown a' b .0 ≤ hoopDown a b .0
-hoop-mono {a} {a'} b h p =
-    omega (arith, floor-mono {a = a * hoopScale} {a' = a' * hoopScale} b (mul-le-mul-right hoopScale h) p)
+hoop-mono b h p = scaled-down _ b h p
 
 -- below the cap a rotation is as it is without one
 pub below-cap : (a b : ℕ) → 0 < b → a ≤ microCap * b → microDown a b ≡ microSteps a b

@@ -1,11 +1,7 @@
 -- The class of a member (document 01, "Member"): "Class tests are exact".
-use Prim.Native.Nat.{ℕ, _*_}
-use mathlib.Core.Bool.{Bool, _&&_, _||_}
-use lib.Dec.{leb, ltb, eqb}
-use Rattle.records.specs.First.{pick}
+use Rattle.records.specs.Notation.{ℕ, _*_, Bool, _&&_, _||_, leb, ltb, eqb, pick}
 use Rattle.records.specs.declared.Member.{Member}
-use Rattle.members.specs.declared.class.Class.{Class}
-use Rattle.members.specs.declared.class.Class.the-variants.{ColumnA, ColumnB, ColumnC, WallA, WallB}
+pub use Rattle.members.specs.declared.class.Class.{Class, the-variants.ColumnA, the-variants.ColumnB, the-variants.ColumnC, the-variants.WallA, the-variants.WallB}
 
 -- "class (1 to 3 columns A to C, 4 and 5 walls A and B)"
 abbrev pub code : Class → ℕ

@@ -1,22 +1,10 @@
 -- What a member is found to be (document 01, "Member", "Refusals as returned").
-use Prim.Native.Nat.{ℕ, _-_, _*_}
-use mathlib.Core.Bool.{Bool, true, false, _&&_, _||_, not}
-use mathlib.Core.List.{List, [], _∷_}
-use lib.Dec.{ltb, eqb}
-use Rattle.records.specs.First.{pick}
-use Rattle.records.specs.Records.{zeroForce, memberFault}
-use Rattle.records.specs.declared.Member.{Member}
-use Rattle.members.specs.declared.finding.Finding.{Finding}
-use Rattle.members.specs.declared.finding.MemberAnswer.{MemberAnswer}
-use Rattle.members.specs.declared.finding.MemberAnswer.the-variants.{Judged, Refused}
-use Rattle.members.specs.declared.tables.LimitSet.{LimitSet}
-use Rattle.members.specs.declared.units.Ratio.{Ratio}
-use Rattle.members.specs.declared.units.HoopRatio.{HoopRatio}
-use Rattle.members.specs.declared.units.Microradians.{Microradians}
-use Rattle.members.specs.Units.{ratioUp, hoopDown, microradians}
+use Rattle.records.specs.Notation.{ℕ, _-_, _*_, Bool, true, false, not, _&&_, _||_, List, [], _∷_, ltb, eqb, pick}
+use Rattle.records.specs.{declared.Member.Member, Records.zeroForce, Records.memberFault}
+use Rattle.members.specs.Units.{Ratio, HoopRatio, Microradians, ratioUp, hoopDown}
 use Rattle.members.specs.Class.{code, isWall, shearBelow, classOf}
-use Rattle.members.specs.Tables.{published}
-use Rattle.members.specs.Limits.{mLimitAt, rotationLimitAt}
+use Rattle.members.specs.{Tables.LimitSet, Tables.published, Limits.mLimitAt, Limits.rotationLimitAt}
+use Rattle.members.specs.declared.finding.{Finding.Finding, MemberAnswer.MemberAnswer, MemberAnswer.the-variants.Judged, MemberAnswer.the-variants.Refused}
 
 -- "0 where N_K ≤ 0": the compression of a force counted from zeroForce
 abbrev pub compression : ℕ → ℕ
@@ -78,7 +66,7 @@ findingBy s k met m =
       class = classOf k m;
       m = momentRatio k m;
       «m_limit» = mLimit s k m;
-      rotation = microradians (m .case .rotation);
+      rotation = record { 0 = m .case .rotation };
       «rotation_limit» = rotationLimit s k m;
       over = isOver s k met m;
       nd = axialRatioD m;
@@ -96,9 +84,6 @@ answerBy s k met m = pick (knowledge k) (pick (eqb (memberFault m) 0) (Judged (f
 abbrev pub finding : ℕ → Bool → Member → Finding
 finding = findingBy published
 
-abbrev pub memberAnswer : ℕ → Bool → Member → MemberAnswer
-memberAnswer = answerBy published
-
 -- what an answer is in the paper's words: the refusal's number, 0 where there is none; its line, 0 on records; and the values found
 pub record Returned : Type 0 where
   pub refusal : ℕ
@@ -109,21 +94,17 @@ abbrev pub flag : Bool → ℕ
 flag true = 1
 flag false = 0
 
--- the values of a printed member after its number, and n_D
-abbrev pub findingValues : Finding → List ℕ
-findingValues f = code (f .class) ∷ f .m .0 ∷ f .«m_limit» .0 ∷ f .rotation .0 ∷ f .«rotation_limit» .0 ∷ flag (f .over) ∷ f .nd .0 ∷ []
-
-abbrev pub found : Finding → Returned
-found f = record { refusal = 0; line = 0; values = findingValues f }
+abbrev pub found : List ℕ → Returned
+found vs = record { refusal = 0; line = 0; values = vs }
 
 abbrev pub refused : ℕ → Returned
 refused n = record { refusal = n; line = 0; values = [] }
 
--- what each case of the answer says
+-- what each case of the answer says: the values of a printed member after its number, and n_D
 abbrev pub returned : MemberAnswer → Returned
-returned (Judged f) = found f
+returned (Judged f) = found (code (f .class) ∷ f .m .0 ∷ f .«m_limit» .0 ∷ f .rotation .0 ∷ f .«rotation_limit» .0 ∷ flag (f .over) ∷ f .nd .0 ∷ [])
 returned (Refused n) = refused n
 
--- what the paper returns
+-- what the paper returns, by the published set
 abbrev pub memberReturned : ℕ → Bool → Member → Returned
-memberReturned k met m = returned (memberAnswer k met m)
+memberReturned k met m = returned (answerBy published k met m)

@@ -1,20 +1,9 @@
 -- The limits of a class at n, v and ρ (document 01, "Member"): "linear between rows and constant outside", as an exact fraction.
-use Prim.Native.Nat.{ℕ, _+_, _-_, _*_, min, max}
-use mathlib.Core.List.{List, [], _∷_}
-use lib.Dec.{leb, eqb}
-use Rattle.records.specs.First.{pick}
-use Rattle.members.specs.declared.class.Class.{Class}
-use Rattle.members.specs.declared.class.Class.the-variants.{ColumnA, ColumnB, ColumnC, WallA, WallB}
-use Rattle.members.specs.declared.limits.Row.{Row}
-use Rattle.members.specs.declared.limits.Fraction.{Fraction}
-use Rattle.members.specs.declared.tables.Two.{Two}
-use Rattle.members.specs.declared.tables.Places.{Places}
-use Rattle.members.specs.declared.tables.Table.{Table}
-use Rattle.members.specs.declared.tables.LimitSet.{LimitSet}
-use Rattle.members.specs.declared.units.Ratio.{Ratio}
-use Rattle.members.specs.declared.units.Microradians.{Microradians}
-use Rattle.members.specs.Units.{ratioSteps, microSteps}
-use Rattle.members.specs.Tables.{two}
+use Rattle.records.specs.Notation.{ℕ, _+_, _-_, _*_, min, max, List, [], _∷_, leb, eqb, pick}
+use Rattle.members.specs.Units.{Ratio, Microradians, ratioSteps, microSteps}
+use Rattle.members.specs.Class.{Class, ColumnA, ColumnB, ColumnC, WallA, WallB}
+use Rattle.members.specs.Tables.{Two, Places, Table, LimitSet, two}
+use Rattle.members.specs.declared.limits.{Row.Row, Fraction.Fraction}
 
 abbrev pub row : ℕ → ℕ → Row
 row at limit = record { at = at; limit = limit }

@@ -1,5 +1,6 @@
 -- The sizes that the code computes with, so that no product wraps; they leave room for a grid ten times as fine.
-use Prim.Native.Nat.{ℕ, _*_, _≤_, _<_}
+use Prim.Native.Nat.{ℕ, _*_, _/_, _≤_, _<_, min}
+use Rattle.members.specs.Units.{Microradians}
 use Rattle.members.specs.declared.limits.Row.{Row}
 use Rattle.members.specs.declared.limits.Fraction.{Fraction}
 use Rattle.members.specs.declared.tables.Four.{Four}
@@ -7,6 +8,13 @@ use Rattle.members.specs.declared.tables.Two.{Two}
 use Rattle.members.specs.declared.tables.Places.{Places}
 use Rattle.members.specs.declared.tables.Table.{Table}
 use Rattle.members.specs.declared.tables.LimitSet.{LimitSet}
+
+-- what the field of a rotation holds at most ("run from 0 .. to 9,999,999"): the cap of the code's unit, which no limit reaches (`below-cap` of proofs/Rounding)
+abbrev pub microCap : ℕ
+microCap = 9_999_999
+
+abbrev pub microDown : ℕ → ℕ → Microradians
+microDown a b = record { 0 = min microCap (a / b) }
 
 -- rising places of at most 200,000
 pub record Places4 (f : Four) : Type 0 where

@@ -1,10 +1,6 @@
 -- The tables of limits (document 01, "Member").
-use Prim.Native.Nat.{ℕ}
-use Rattle.members.specs.declared.tables.Four.{Four}
-use Rattle.members.specs.declared.tables.Two.{Two}
-use Rattle.members.specs.declared.tables.Places.{Places}
-use Rattle.members.specs.declared.tables.Table.{Table}
-use Rattle.members.specs.declared.tables.LimitSet.{LimitSet}
+use Rattle.records.specs.Notation.{ℕ}
+pub use Rattle.members.specs.declared.tables.{Four.Four, Two.Two, Places.Places, Table.Table, LimitSet.LimitSet}
 
 abbrev pub four : ℕ → ℕ → ℕ → ℕ → Four
 four a b c d = record { r1 = a; r2 = b; r3 = c; r4 = d }

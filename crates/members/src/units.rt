@@ -1,7 +1,8 @@
 // The units of document 01, "Member": each type holds its own number, its grid and its rounding.
 ghost use mathlib.Core.Path.{_≡_};
 ghost use Prim.Native.Nat.{_^_, _<_, _≤_};
-ghost use Rattle.members.specs.Units.{ratioUp, hoopDown, ratioSteps, microDown};
+ghost use Rattle.members.specs.Units.{ratioUp, hoopDown, ratioSteps};
+ghost use Rattle.members.specs.Sizes.{microDown};
 
 // n, n_D, m, v and the limits of m: ten-thousandths.
 pub struct Ratio(pub u64);

@@ -9,12 +9,11 @@ use lib.Dec.{ltb, eqb, eqb·suc-zero}
 use lib.ListN.{length, take, drop, getD, length-append, length-drop, take-append-drop}
 use lib.Seq.{drop-cons, set-at, take-at, drop-drop, drop-append-add, length-take-le}
 use borrow.Author.Tests.{eqb-true, ltb-true, ltb-false}
-use Rattle.records.specs.First.{pick, inOrder}
+use Rattle.records.specs.Notation.{pick, inOrder, listed}
 use Rattle.records.specs.Records.{storeyFault, memberFault, repeated}
 use Rattle.format.specs.Lines.{shaped, fieldsFault, headerAt}
 use Rattle.reading.specs.Survey.{lineStart, lineNumber, membersBefore, storey, memberStart, member, shape, unheld, headerLineFault, storeyLineFault, memberLineFault, noFault, at-line, firstFault, membersFault, storeysFault, trailing, surveyFault, firstMembers, survey}
 use Rattle.reading.specs.Filling.{placed, filledMembers}
-use Rattle.records.specs.Totals.{listed}
 use Rattle.reading.specs.Checks.{Fits}
 use Rattle.reading.specs.Answer.{told, storeysTold, storeysAfter, membersAfter}
 use Rattle.records.specs.declared.Storey.{Storey}

@@ -11,7 +11,7 @@ use lib.ListN.{length, getD, set, length-set}
 use lib.Seq.{getD-set-same, getD-set-other}
 use borrow.Author.Count.{below-more}
 use borrow.Author.Tests.{eq-eqb, ne-eqb, lt-ltb, le-ltb}
-use Rattle.records.specs.First.{pick, anyBelow, inOrder}
+use Rattle.records.specs.Notation.{pick, anyBelow, inOrder}
 use Rattle.records.specs.Records.{storeyFault, repeated}
 use Rattle.format.specs.Lines.{fieldsFault}
 use Rattle.reading.specs.Survey.{lineStart, lineNumber, membersBefore, storey, shape, unheld, storeyLineFault, noFault, or-else, firstFault, membersFault, storeysFault, trailing}

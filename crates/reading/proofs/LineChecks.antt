@@ -7,10 +7,10 @@ use mathlib.Core.Path.{_≡_, ap, sym, _∙_}
 use lib.Dec.{eqb}
 use lib.ListN.{length, drop, getD}
 use borrow.Author.Tests.{leb-true}
-use Rattle.records.specs.First.{pick}
+use Rattle.records.specs.Notation.{pick}
 use Rattle.records.specs.Records.{fields, memberValues, headerFault, storeyFault, memberFault, headerBy, storeyBy, memberBy}
-use Rattle.format.specs.Lines.{shaped, valueAt, fieldsFault, headerAt, storeyAt, memberAt}
-use Rattle.format.specs.Field.{framed, holdsFields, FieldsHeld, FieldsOf}
+use Rattle.format.specs.Lines.{shaped, valueAt, fieldsFault, headerAt, storeyAt, memberAt, framed, holdsFields, FieldsOf}
+use Rattle.format.specs.Steps.{FieldsHeld}
 use Rattle.reading.specs.Survey.{headerLineFault}
 use Rattle.reading.specs.Checks.{HeaderLineOf, StoreyLineOf, MemberGood, MemberLineOf}
 use Rattle.reading.specs.declared.survey.MemberLine.{MemberLine}

@@ -6,7 +6,7 @@ use mathlib.Core.List.{List, [], _∷_}
 use mathlib.Core.Option.{Option, some, none}
 use lib.Dec.{leb, ltb, eqb}
 use lib.ListN.{length, drop}
-use Rattle.records.specs.First.{pick, everyBelow, anyBelow, inOrder, first}
+use Rattle.records.specs.Notation.{pick, everyBelow, anyBelow, inOrder, first}
 use Rattle.records.specs.Records.{Allowed, allows, fields, inRange, headerValues, storeyValues, memberValues, headerFault, storeyFault, memberFault, repeated}
 use Rattle.format.specs.Lines.{shaped, faultIn, fieldAt, fieldFault, fieldsFault, headerAt}
 use Rattle.reading.specs.Survey.{lineStart, lineNumber, membersBefore, storey, memberStart, member, shape, unheld, headerLineFault, storeyLineFault, memberLineFault, noFault, at-line, or-else, firstFault, membersFault, storeysFault, trailing, surveyFault}

@@ -5,11 +5,10 @@ use mathlib.Core.List.{List, [], _∷_}
 use mathlib.Core.Path.{_≡_, refl, sym, _∙_}
 use lib.ListN.{length, length-append}
 use borrow.Author.Tests.{eq-eqb, ne-eqb}
-use Rattle.records.specs.First.{inOrder}
+use Rattle.records.specs.Notation.{inOrder, listed}
 use Rattle.records.specs.Records.{headerFault}
 use Rattle.format.specs.Lines.{fieldsFault, headerAt}
 use Rattle.reading.specs.Survey.{membersBefore, storey, member, shape, headerLineFault, surveyFault, firstMembers, survey}
-use Rattle.records.specs.Totals.{listed}
 use Rattle.reading.specs.Checks.{CheckedOf}
 use Rattle.reading.specs.Answer.{told, filled, refusal}
 use Rattle.records.specs.declared.Header.{Header}

@@ -11,8 +11,7 @@ use lib.ListN.{length, take, drop, getD, length-append, length-drop, List·getD-
 use lib.Seq.{take-all, take-append-le, drop-append-le, drop-append-add}
 use borrow.Author.Tests.{eqb-true, eq-eqb}
 use Rattle.records.specs.Blank.{noStorey, noMember}
-use Rattle.records.specs.First.{pick, anyBelow, inOrder, first}
-use Rattle.records.specs.Totals.{total, listed}
+use Rattle.records.specs.Notation.{pick, anyBelow, inOrder, first, total, listed}
 use Rattle.records.specs.Records.{headerFault, storeyFault, memberFault, repeated}
 use Rattle.checks.specs.Rows.{storeyIn, memberIn, membersOf, countFault, countsFault, rowFault, memberRowsFault, storeyRowsFault, recordsFault}
 use Rattle.checks.specs.Rows as Rows
@@ -23,7 +22,7 @@ use Rattle.records.specs.declared.Tag.the-variants.{B, S, M}
 use Rattle.records.proofs.Firsts.{first-zero}
 use Rattle.checks.proofs.Refusals.{None, end, also, one, rest, in-order-clear, in-order-none}
 use Rattle.format.specs.Lines.{fieldsFault, headerAt}
-use Rattle.reading.specs.Survey.{lineStart, membersBefore, storey, memberStart, member, shape, unheld, headerLineFault, storeyLineFault, memberLineFault, surveyFault, firstStoreys, firstMembers, accepted, refused, survey}
+use Rattle.reading.specs.Survey.{lineStart, membersBefore, storey, memberStart, member, shape, unheld, headerLineFault, storeyLineFault, memberLineFault, surveyFault, firstMembers, accepted, refused, survey}
 use Rattle.reading.specs.Passed.{AcceptedPass}
 use Rattle.reading.proofs.Accepted.{header-line, storey-line, member-line}
 use Rattle.reading.proofs.Numbers.{length-listed, length-members}
@@ -53,10 +52,10 @@ unfolding total
 total-more [] st = omega arith
 total-more (x ∷ ss) st = omega (arith, total-more ss st)
 
-pub total-all : (s : List ℕ) (i : ℕ) → total (λ (t : Storey). t .count) (firstStoreys s i) ≡ membersBefore s i
+pub total-all : (s : List ℕ) (i : ℕ) → total (λ (t : Storey). t .count) (listed (storey s) i) ≡ membersBefore s i
 unfolding listed membersBefore total
 total-all s zero = refl
-total-all s (suc i) = total-more (firstStoreys s i) (storey s i) ∙ rw (total-all s i)
+total-all s (suc i) = total-more (listed (storey s) i) (storey s i) ∙ rw (total-all s i)
 
 -- ---- the members of a storey among all
 module _ (s : List ℕ) where
@@ -94,7 +93,7 @@ module _ (s : List ℕ) (srows mrows : ℕ) (z : surveyFault s srows mrows .numb
   n = headerAt s 0 .count
 
   abbrev ss : List Storey
-  ss = firstStoreys s n
+  ss = listed (storey s) n
 
   abbrev ms : List Member
   ms = firstMembers s n

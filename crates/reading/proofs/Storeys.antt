@@ -10,7 +10,7 @@ use lib.ListN.{length, getD, set, length-set}
 use lib.Seq.{getD-set-same, getD-set-other}
 use borrow.Author.Count.{below-more}
 use borrow.Author.Tests.{ne-eqb}
-use Rattle.records.specs.First.{pick, anyBelow, first}
+use Rattle.records.specs.Notation.{pick, anyBelow, first}
 use Rattle.records.specs.Records.{memberFault, repeated}
 use Rattle.format.specs.Lines.{fieldsFault}
 use Rattle.records.specs.declared.Tag.the-variants.{M}

@@ -1,13 +1,8 @@
 -- The answer of the reading call, case by case in the paper's numbers (document 01, "Refusals as returned").
-use Prim.Native.Nat.{ℕ}
-use mathlib.Core.List.{List, _++_}
-use lib.ListN.{length, drop}
+use Rattle.records.specs.Notation.{ℕ, List, _++_, length, drop}
+use Rattle.records.specs.declared.{Header.Header, Storey.Storey, Member.Member}
 use Rattle.reading.specs.Survey.{Outcome, accepted, refused}
-use Rattle.records.specs.declared.Header.{Header}
-use Rattle.records.specs.declared.Storey.{Storey}
-use Rattle.records.specs.declared.Member.{Member}
-use Rattle.reading.specs.declared.survey.ReadAnswer.{ReadAnswer}
-use Rattle.reading.specs.declared.survey.ReadAnswer.the-variants.{Accepted, Refused}
+use Rattle.reading.specs.declared.survey.ReadAnswer.{ReadAnswer, the-variants.Accepted, the-variants.Refused}
 
 -- what an answer tells: the header, with the numbers of rows filled; or a refusal, by its number, with its line
 pub data Told : Type 0 where

@@ -4,11 +4,11 @@ use lib.ListN.{length}
 use mathlib.Core.Bool.{Bool}
 use mathlib.Core.List.{List, [], _∷_}
 use mathlib.Core.Path.{_≡_}
-use Rattle.records.specs.First.{pick, inOrder}
+use Rattle.records.specs.Notation.{pick, inOrder}
 use Rattle.records.specs.Records.{storeyFault, memberFault}
 use Rattle.format.specs.Lines.{fieldsFault, headerAt, storeyAt, memberAt}
 use Rattle.reading.specs.Survey.{lineStart, membersBefore, storey, shape, headerLineFault, or-else, firstFault, storeysFault, trailing}
-use Rattle.records.specs.declared.Tag.the-variants.{B, S, M}
+use Rattle.records.specs.declared.Tag.the-variants.{S, M}
 use Rattle.reading.specs.declared.survey.HeaderLine.{HeaderLine}
 use Rattle.reading.specs.declared.survey.StoreyLine.{StoreyLine}
 use Rattle.reading.specs.declared.survey.MemberLine.{MemberLine}

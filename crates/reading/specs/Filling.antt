@@ -2,7 +2,6 @@
 use Prim.Native.Nat.{ℕ, zero, suc, _+_}
 use mathlib.Core.List.{List}
 use lib.ListN.{set}
-use Rattle.records.specs.First.{first}
 use Rattle.records.specs.declared.Member.{Member}
 use Rattle.reading.specs.Survey.{membersBefore, storey, member}
 

@@ -1,18 +1,9 @@
 -- A survey file (document 01, "The survey record", "Refusals as returned"): the place and the number of each line, the first refusal
 -- of each, the first refusal of the file, and what an accepted file holds.
-use Prim.Native.Nat.{ℕ, zero, suc, _+_, _*_}
-use mathlib.Core.List.{List, [], _∷_, _++_}
-use lib.Dec.{ltb, eqb}
-use lib.ListN.{length, drop}
-use Rattle.records.specs.First.{pick, inOrder, first}
-use Rattle.records.specs.Totals.{listed}
+use Rattle.records.specs.Notation.{ℕ, zero, suc, _+_, _*_, List, [], _∷_, _++_, ltb, eqb, length, drop, pick, inOrder, first, listed}
+use Rattle.records.specs.declared.{Header.Header, Storey.Storey, Member.Member, Tag.Tag, Tag.the-variants.B, Tag.the-variants.S, Tag.the-variants.M}
 use Rattle.records.specs.Records.{headerFault, storeyFault, memberFault, repeated}
 use Rattle.format.specs.Lines.{shaped, fieldsFault, headerAt, storeyAt, memberAt}
-use Rattle.records.specs.declared.Header.{Header}
-use Rattle.records.specs.declared.Storey.{Storey}
-use Rattle.records.specs.declared.Member.{Member}
-use Rattle.records.specs.declared.Tag.{Tag}
-use Rattle.records.specs.declared.Tag.the-variants.{B, S, M}
 use Rattle.reading.specs.declared.survey.Fault.{Fault}
 
 -- "one B, then each S followed by its M lines": where the line begins before which stand the B line (50 bytes), i S lines (26) and
@@ -92,10 +83,7 @@ surveyFault s srows mrows =
     or-else (at-line 1 (headerLineFault s))
     (or-else (firstFault (storeysFault s srows mrows) (headerAt s 0 .count)) (trailing s (headerAt s 0 .count)))
 
--- the storeys of the first n S lines, and their members
-abbrev pub firstStoreys : List ℕ → ℕ → List Storey
-firstStoreys s n = listed (storey s) n
-
+-- the members of the first n S lines
 unfoldable pub firstMembers : List ℕ → ℕ → List Member
 firstMembers s zero = []
 firstMembers s (suc i) = firstMembers s i ++ listed (member s i) (storey s i .count)
@@ -108,5 +96,5 @@ pub data Outcome : Type 0 where
 unfoldable pub survey : List ℕ → ℕ → ℕ → Outcome
 survey s srows mrows =
     pick (eqb (surveyFault s srows mrows .number) 0)
-    (accepted (headerAt s 0) (firstStoreys s (headerAt s 0 .count)) (firstMembers s (headerAt s 0 .count)))
+    (accepted (headerAt s 0) (listed (storey s) (headerAt s 0 .count)) (firstMembers s (headerAt s 0 .count)))
     (refused (surveyFault s srows mrows .number) (surveyFault s srows mrows .line))

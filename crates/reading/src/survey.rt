@@ -3,7 +3,7 @@ ghost use mathlib.Core.Path.{_≡_};
 ghost use Prim.Native.Nat.{ℕ, _+_, _≤_};
 ghost use lib.Dec.{eqb};
 ghost use lib.ListN.{length, getD};
-ghost use Rattle.records.specs.First.{pick, anyBelow};
+ghost use Rattle.records.specs.Notation.{pick, anyBelow};
 ghost use Rattle.reading.specs.Checks.{HeaderLineOf, StoreyLineOf, MemberGood, MemberLineOf, MembersDue, CheckedOf};
 ghost use Rattle.reading.specs.Survey.{lineStart, membersFault, survey};
 ghost use Rattle.format.specs.Lines.{storeyAt, memberAt};

@@ -6,7 +6,7 @@ use native.Mathlib.Numerals.{add-one}
 use mathlib.Core.Bool.{Bool, true, false, _&&_, and-false, or-true}
 use mathlib.Core.Logic.{⊎-elim}
 use mathlib.Core.Path.{_≡_, refl, sym}
-use Rattle.records.specs.First.{everyBelow, anyBelow}
+use Rattle.records.specs.Notation.{everyBelow, anyBelow}
 
 pub and-left : (a b : Bool) → (a && b) ≡ true → a ≡ true
 and-left true b e = refl

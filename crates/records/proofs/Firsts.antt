@@ -9,7 +9,7 @@ use mathlib.Core.Path.{_≡_, refl, sym, _∙_}
 use lib.Dec.{eqb, eqb·suc-zero}
 use borrow.Author.Tests.{eq-eqb, ne-eqb, eqb-true, eqb-false}
 use mathlib.Core.List.{List, [], _∷_, _++_}
-use Rattle.records.specs.First.{pick, inOrder, first}
+use Rattle.records.specs.Notation.{pick, inOrder, first}
 
 module _ {A : Type 0} (none : A) (number : A → ℕ) (f : ℕ → A) where
   pub first-none : first none number f 0 ≡ none

@@ -1,5 +1,4 @@
-pub mod First
-pub mod Totals
+pub mod Notation
 pub mod Records
 pub mod Valid
 pub mod Blank

@@ -1,15 +1,6 @@
 -- What makes a record good, and which refusal comes first (document 01, "The survey record", "Refusals as returned").
-use Prim.Native.Nat.{ℕ, _+_, _-_}
-use mathlib.Core.Bool.{Bool, _&&_, _||_}
-use mathlib.Core.List.{List, [], _∷_}
-use lib.Dec.{leb, eqb}
-use lib.ListN.{getD}
-use Rattle.records.specs.First.{pick, everyBelow, anyBelow}
-use Rattle.records.specs.declared.Header.{Header}
-use Rattle.records.specs.declared.Storey.{Storey}
-use Rattle.records.specs.declared.Member.{Member}
-use Rattle.records.specs.declared.Tag.{Tag}
-use Rattle.records.specs.declared.Tag.the-variants.{B, S, M}
+use Rattle.records.specs.Notation.{ℕ, _+_, _-_, Bool, _&&_, _||_, List, [], _∷_, leb, eqb, getD, pick, everyBelow, anyBelow}
+use Rattle.records.specs.declared.{Header.Header, Storey.Storey, Member.Member, Tag.Tag, Tag.the-variants.B, Tag.the-variants.S, Tag.the-variants.M}
 
 -- what a field may hold: the numbers from one to another, or one of two
 pub data Allowed : Type 0 where

@@ -3,7 +3,7 @@ ghost use mathlib.Core.Path.{_≡_};
 ghost use mathlib.Core.Bool.{_&&_, _||_};
 ghost use lib.Dec.{leb, eqb};
 ghost use lib.ListN.{getD};
-ghost use Rattle.records.specs.First.{everyBelow};
+ghost use Rattle.records.specs.Notation.{everyBelow};
 ghost use Rattle.records.specs.declared.Tag.the-variants.{M};
 ghost use Rattle.records.specs.Records.{never, allows, headerRanges, storeyRanges, memberRanges, ranges, fields, inRange, headerFault, storeyFault, memberFault};
 use crate::Header;

@@ -14,7 +14,7 @@ use Rattle.records.proofs.Firsts.{last-of}
 use Rattle.records.proofs.Validity.{clear}
 use Rattle.storeys.specs.Storey.{publishedRules}
 use Rattle.checks.specs.Rows.{storeyIn, membersBefore, membersOf, recordsFault}
-use Rattle.storeys.specs.Building.{tilted, buildingRisky, buildingFinding, buildingAnswerBy, placeIn, Answers}
+use Rattle.storeys.specs.Building.{tilted, buildingRisky, buildingAnswerBy, placeIn, Answers}
 use Rattle.storeys.specs.declared.BuildingFinding.{BuildingFinding}
 use Rattle.storeys.specs.declared.BuildingAnswer.{BuildingAnswer}
 use Rattle.storeys.specs.declared.BuildingAnswer.the-variants as building-answer
@@ -75,7 +75,7 @@ line-judged : (b : BuildingAnswer) (f : BuildingFinding) → b ≡ building-answ
 line-judged b f e = rw e
 
 module _ (h : Header) (ss : List Storey) (ms : List Member) (b : BuildingAnswer) (says : Answers publishedRules h ss ms b) where
-  judged : eqb (recordsFault h ss ms) 0 ≡ true → b ≡ building-answer.Judged (buildingFinding publishedRules h ss ms (placeIn b))
+  judged : eqb (recordsFault h ss ms) 0 ≡ true → b ≡ building-answer.Judged (record { tilted = tilted h; risky = buildingRisky publishedRules h ss ms; place = placeIn b })
   unfolding buildingAnswerBy
   judged e = answer-same publishedRules h ss ms b says ∙ rw e
 
@@ -103,7 +103,6 @@ module _ (h : Header) (ss : List Storey) (ms : List Member) (b : BuildingAnswer)
   fault-is z room e = e ∙ fault-by (eqb (recordsFault h ss ms) 0) room refl
 
   pub line-is : recordsFault h ss ms ≡ 0 → lineOf b ≡ buildingLine (tilted h) (buildingRisky publishedRules h ss ms)
-  unfolding buildingFinding
   line-is none = line-judged b _ (judged (eq-eqb _ _ none))
 
 -- ---- a refusal

@@ -3,7 +3,7 @@ use Prim.Native.Nat.{ℕ, _+_}
 use mathlib.Core.List.{List, [], _∷_, _++_}
 use mathlib.Core.Path.{_≡_, refl}
 use Rattle.format.specs.Spelling.{column, spelled}
-use Rattle.records.specs.First.{anyBelow}
+use Rattle.records.specs.Notation.{anyBelow, total, anyOf}
 use Rattle.records.specs.Records.{zeroForce}
 use Rattle.records.specs.declared.Header.{Header}
 use Rattle.records.specs.declared.Storey.{Storey}
@@ -12,7 +12,6 @@ use Rattle.members.specs.Class.{detailed, columnClass, wallClass, classOf}
 use Rattle.members.specs.Tables.{places, moments, rotations}
 use Rattle.members.specs.Limits.{interp, blend, columnA, columnB, columnC, wallRows, wallB, mLimitAt, rotationLimitAt}
 use Rattle.members.specs.Finding.{axial, moment, stress, hoops, mLimit, rotationLimit, mDropped, isOver, findingBy}
-use Rattle.records.specs.Totals.{total, anyOf}
 use Rattle.storeys.specs.Storey.{meetsWallShare, axialTotal, overShear, someOver, damaged, exceedsShare, riskyByDamage, storeyRisky, storeyFinding}
 use Rattle.checks.specs.Rows.{membersBefore, membersOf}
 use Rattle.storeys.specs.Building.{riskyAt, tilted, someRisky, buildingRisky}

@@ -6,12 +6,11 @@ use mathlib.Core.List.{List, [], _∷_, _++_, map, append-assoc, List·Permᴰ, 
 use mathlib.Core.Path.{_≡_, refl, ap, _∙_}
 use lib.Dec.{eqb}
 use lib.ListN.{length}
-use Rattle.records.specs.First.{anyBelow}
+use Rattle.records.specs.Notation.{anyBelow, total, anyOf}
 use Rattle.records.specs.declared.Header.{Header}
 use Rattle.records.specs.declared.Storey.{Storey}
 use Rattle.records.specs.declared.Member.{Member}
 use Rattle.members.specs.Finding.{axialRatioD, finding, flag}
-use Rattle.records.specs.Totals.{total, anyOf}
 use Rattle.storeys.specs.Storey.{publishedRules, wallShear, meetsWallShare, axialTotal, over, shearIfOver, overShear, someOver, damaged, riskyByDamage, storeyRisky, storeyFinding}
 use Rattle.checks.specs.Rows.{storeyIn, membersOf}
 use Rattle.storeys.specs.Building.{riskyAt, tilted, someRisky, buildingRisky}

@@ -8,7 +8,7 @@ use mathlib.Core.Path.{_≡_, refl, sym, _∙_}
 use lib.ListN.{length, drop, length-append, drop-of-length-le}
 use lib.Seq.{drop-cons}
 use borrow.Author.Tests.{eq-eqb}
-use Rattle.records.specs.First.{pick}
+use Rattle.records.specs.Notation.{pick}
 use Rattle.records.specs.Records.{memberFault, storeyFault}
 use Rattle.records.specs.declared.Storey.{Storey}
 use Rattle.records.specs.declared.Member.{Member}
@@ -16,29 +16,29 @@ use Rattle.members.specs.Finding.{finding, knowledge}
 use Rattle.members.specs.declared.finding.Finding.{Finding}
 use Rattle.storeys.specs.declared.StoreyFinding.{StoreyFinding}
 use Rattle.storeys.specs.declared.StoreyAnswer.{StoreyAnswer}
-use Rattle.storeys.specs.Storey.{publishedRules, meetsWallShare, storeyFinding, knowledgeFault, storeyCallFault, storeyAnswerBy, storeyAnswer, returnedStorey, storeyReturned}
+use Rattle.storeys.specs.Storey.{publishedRules, meetsWallShare, storeyFinding, knowledgeFault, storeyCallFault, storeyAnswerBy, returnedStorey, storeyReturned}
 use Rattle.checks.specs.Rows.{countFault, memberIn, memberRowsFault}
 use Rattle.records.specs.Blank.{noMember}
 use Rattle.storeys.proofs.Returned.{storey-answer-is}
 use Rattle.checks.proofs.Refusals.{None, one, rest, in-order-clear}
 use Rattle.checks.proofs.RowLaws.{row-good}
 use Rattle.columns.specs.Bytes.{stamped}
-use Rattle.report.specs.Sheet.{memberColumns, storeyColumns, buildingColumns, memberLine, storeyLine, buildingLine, memberLines, storeyLines}
+use Rattle.report.specs.Sheet.{memberLine, storeyLine, buildingLine, memberLines, storeyLines}
 use Rattle.report.specs.Printing.{findingIn}
 use Rattle.columns.proofs.Stamps.{stamped-none, stamped-both, length-line}
 
 -- ---- lengths
 pub length-member-line : (number : ℕ) (f : Finding) → length (memberLine number f) ≡ 86
 unfolding memberLine
-length-member-line number f = length-line (77 ∷ []) (memberColumns number f)
+length-member-line number f = length-line (77 ∷ []) _
 
 pub length-storey-line : (number : ℕ) (f : StoreyFinding) → length (storeyLine number f) ≡ 74
 unfolding storeyLine
-length-storey-line number f = length-line (83 ∷ []) (storeyColumns number f)
+length-storey-line number f = length-line (83 ∷ []) _
 
 pub length-building-line : (tilt risky : Bool) → length (buildingLine tilt risky) ≡ 26
 unfolding buildingLine
-length-building-line tilt risky = length-line (66 ∷ []) (buildingColumns tilt risky)
+length-building-line tilt risky = length-line (66 ∷ []) _
 
 pub length-member-lines : (k : ℕ) (met : Bool) (ms : List Member) → length (memberLines k met ms) ≡ 86 * length ms
 unfolding memberLines
@@ -88,7 +88,7 @@ module _ (k : ℕ) (s : Storey) (rows : List Member) (none : storeyCallFault k s
 
   pub storey-found : (a : StoreyAnswer) (f : StoreyFinding) → returnedStorey a ≡ storeyReturned k s rows → f ≡ findingIn a → f ≡ storeyFinding publishedRules k (s .shear) rows
   unfolding storeyAnswerBy
-  storey-found a f e q = q ∙ rw (storey-answer-is a (storeyAnswer k s rows) e, eq-eqb _ _ none)
+  storey-found a f e q = q ∙ rw (storey-answer-is a (storeyAnswerBy publishedRules k s rows) e, eq-eqb _ _ none)
 
   pub storey-done : (bytes filled ended : List ℕ) (at p : ℕ) (met : Bool) (f : StoreyFinding) → f ≡ storeyFinding publishedRules k (s .shear) rows → met ≡ f .«walls_suffice» → filled ≡ stamped bytes at (memberLines k met rows) → p ≡ at + 86 * length rows → ended ≡ stamped filled p (storeyLine (s .number) f) → ended ≡ stamped bytes at (storeyLines k s rows)
   unfolding storeyLines storeyFinding

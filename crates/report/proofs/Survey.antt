@@ -9,7 +9,7 @@ use borrow.Author.Tests.{eq-eqb}
 use Rattle.records.specs.declared.Header.{Header}
 use Rattle.records.specs.declared.Storey.{Storey}
 use Rattle.records.specs.declared.Member.{Member}
-use Rattle.records.specs.Totals.{total}
+use Rattle.records.specs.Notation.{total}
 use Rattle.storeys.specs.Storey.{knowledgeFault, storeyCallFault}
 use Rattle.checks.specs.Rows.{countFault, storeyIn, membersBefore, membersOf, recordsFault}
 use Rattle.checks.proofs.Refusals.{end, also, one, rest, in-order-none}

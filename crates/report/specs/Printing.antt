@@ -3,18 +3,14 @@ use Prim.Native.Nat.{ℕ, _+_, _*_, _≤_}
 use mathlib.Core.Bool.{true, false}
 use mathlib.Core.List.{List, []}
 use mathlib.Core.Path.{_≡_}
-use lib.ListN.{length}
 use Rattle.records.specs.Records.{memberFault}
 use Rattle.records.specs.declared.Member.{Member}
-use Rattle.members.specs.Finding.{finding, knowledge}
-use Rattle.storeys.specs.Building.{tilted}
+use Rattle.members.specs.Finding.{knowledge}
 use Rattle.storeys.specs.declared.StoreyFinding.{StoreyFinding}
 use Rattle.storeys.specs.declared.StoreyAnswer.{StoreyAnswer}
 use Rattle.storeys.specs.declared.StoreyAnswer.the-variants as storey-answer
 use Rattle.storeys.specs.declared.BuildingAnswer.{BuildingAnswer}
 use Rattle.storeys.specs.declared.BuildingAnswer.the-variants as building-answer
-use Rattle.report.specs.declared.ReportAnswer.the-variants.{Refused}
-use Rattle.columns.specs.Line.{line}
 use Rattle.report.specs.Sheet.{buildingLine, lengthFault}
 
 -- a member that is printed: k one of the two levels, the record good

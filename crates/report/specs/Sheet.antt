@@ -1,48 +1,26 @@
 -- The printed sheet and the report call (document 01, "The printed sheet", "Refusals as returned"): any header with any rows of storeys and members, and a
 -- buffer of any length.
-use Prim.Native.Nat.{ℕ, zero, suc, _+_}
-use mathlib.Core.Bool.{Bool}
-use mathlib.Core.List.{List, [], _∷_, _++_}
-use lib.Dec.{leb, eqb}
-use lib.ListN.{length, drop}
-use Rattle.records.specs.First.{pick, inOrder}
-use Rattle.records.specs.declared.Header.{Header}
-use Rattle.records.specs.declared.Storey.{Storey}
-use Rattle.records.specs.declared.Member.{Member}
-use Rattle.members.specs.Class.{code}
-use Rattle.members.specs.Finding.{finding, flag, knowledge, Returned, refused}
-use Rattle.members.specs.declared.finding.Finding.{Finding}
-use Rattle.storeys.specs.Storey.{publishedRules, meetsWallShare, storeyFinding}
-use Rattle.checks.specs.Rows.{storeyIn, membersOf, recordsFault}
-use Rattle.storeys.specs.Building.{tilted, buildingRisky}
-use Rattle.storeys.specs.declared.StoreyFinding.{StoreyFinding}
-use Rattle.report.specs.declared.ReportAnswer.{ReportAnswer}
-use Rattle.report.specs.declared.ReportAnswer.the-variants.{Written, Refused}
+use Rattle.records.specs.Notation.{ℕ, zero, suc, Bool, List, [], _∷_, _++_, leb, eqb, length, drop, pick, inOrder}
+use Rattle.checks.specs.Rows.{Header, Storey, Member, storeyIn, membersOf, recordsFault}
+use Rattle.members.specs.{declared.finding.Finding.Finding, Class.code, Finding.finding, Finding.flag, Finding.Returned, Finding.found, Finding.refused}
+use Rattle.storeys.specs.{declared.StoreyFinding.StoreyFinding, Storey.publishedRules, Storey.meetsWallShare, Storey.storeyFinding, Building.tilted, Building.buildingRisky}
 use Rattle.columns.specs.Line.{line}
+use Rattle.report.specs.declared.ReportAnswer.{ReportAnswer, the-variants.Written, the-variants.Refused}
 
--- "number, class (1 to 3 columns A to C, 4 and 5 walls A and B), m, its limit, rotation, its limit, over (0 or 1)"
-abbrev pub memberColumns : ℕ → Finding → List ℕ
-memberColumns number f = number ∷ code (f .class) ∷ f .m .0 ∷ f .«m_limit» .0 ∷ f .rotation .0 ∷ f .«rotation_limit» .0 ∷ flag (f .over) ∷ []
-
--- "number, Σ, c, P, W, Risky"
-abbrev pub storeyColumns : ℕ → StoreyFinding → List ℕ
-storeyColumns number f = number ∷ f .«axial_total» ∷ f .members ∷ f .«over_shear» ∷ f .shear ∷ flag (f .risky) ∷ []
-
--- "tilt above 25,000, Risky"
-abbrev pub buildingColumns : Bool → Bool → List ℕ
-buildingColumns tilt risky = flag tilt ∷ flag risky ∷ []
-
--- the lines, tagged `M` (byte 77), `S` (83) and `B` (66)
+-- an `M` line (byte 77): "number, class (1 to 3 columns A to C, 4 and 5 walls A and B), m, its limit, rotation, its limit, over (0 or 1)"
 unfoldable pub memberLine : ℕ → Finding → List ℕ
-memberLine number f = line (77 ∷ []) (memberColumns number f)
+memberLine number f =
+    line (77 ∷ []) (number ∷ code (f .class) ∷ f .m .0 ∷ f .«m_limit» .0 ∷ f .rotation .0 ∷ f .«rotation_limit» .0 ∷ flag (f .over) ∷ [])
 
+-- an `S` line (83): "number, Σ, c, P, W, Risky"
 unfoldable pub storeyLine : ℕ → StoreyFinding → List ℕ
-storeyLine number f = line (83 ∷ []) (storeyColumns number f)
+storeyLine number f = line (83 ∷ []) (number ∷ f .«axial_total» ∷ f .members ∷ f .«over_shear» ∷ f .shear ∷ flag (f .risky) ∷ [])
 
+-- the `B` line (66): "tilt above 25,000, Risky"
 unfoldable pub buildingLine : Bool → Bool → List ℕ
-buildingLine tilt risky = line (66 ∷ []) (buildingColumns tilt risky)
+buildingLine tilt risky = line (66 ∷ []) (flag tilt ∷ flag risky ∷ [])
 
--- "one line `E` with refusal and line": tagged `E` (69)
+-- "one line `E` with refusal and line" (69)
 unfoldable pub refusalLine : ℕ → ℕ → List ℕ
 refusalLine refusal place = line (69 ∷ []) (refusal ∷ place ∷ [])
 
@@ -77,7 +55,7 @@ reportAnswer h ss ms room = pick (eqb (reportFault h ss ms room) 0) (Written (le
 
 -- what each case of the answer says: "the report gives its length"
 abbrev pub returnedReport : ReportAnswer → Returned
-returnedReport (Written n) = record { refusal = 0; line = 0; values = n ∷ [] }
+returnedReport (Written n) = found (n ∷ [])
 returnedReport (Refused n) = refused n
 
 -- what the paper returns

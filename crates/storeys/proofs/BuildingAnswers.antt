@@ -8,7 +8,7 @@ use mathlib.Core.Path.{_≡_, refl, sym, _∙_}
 use lib.Dec.{ltb, eqb}
 use lib.ListN.{length}
 use borrow.Author.Tests.{eq-eqb, ne-eqb, lt-ltb}
-use Rattle.records.specs.First.{pick, anyBelow, first}
+use Rattle.records.specs.Notation.{pick, anyBelow, first}
 use Rattle.records.specs.declared.Header.{Header}
 use Rattle.records.specs.declared.Storey.{Storey}
 use Rattle.records.specs.declared.Member.{Member}
@@ -18,7 +18,7 @@ use Rattle.storeys.specs.declared.BuildingAnswer.{BuildingAnswer}
 use Rattle.storeys.specs.declared.BuildingAnswer.the-variants.{Refused}
 use Rattle.storeys.specs.declared.verdict.Verdict.{Verdict}
 use Rattle.storeys.specs.Storey.{publishedRules}
-use Rattle.storeys.specs.Building.{riskyAt, someRisky, buildingRisky, buildingFinding, buildingAnswerBy, PlaceOk, nowhere, named, Answers}
+use Rattle.storeys.specs.Building.{riskyAt, someRisky, buildingRisky, buildingAnswerBy, PlaceOk, nowhere, named, Answers}
 use Rattle.storeys.specs.Verdict.{placeAt, verdictOf, verdictAnswer, GoodRows}
 use Rattle.checks.specs.Rows.{recordsFault}
 use Rattle.checks.proofs.RowLaws.{total-counted, rows-good}
@@ -61,7 +61,7 @@ module _ (h : Header) (ss : List Storey) (ms : List Member) where
   place-found v e = placed (v .place) (rw e (seen (riskyAt publishedRules (h .knowledge) ss ms) (length ss)))
 
   judged-by : (v : Verdict) → v ≡ verdictOf (h .knowledge) ss ms (length ss) → recordsFault h ss ms ≡ 0 → Answers publishedRules h ss ms (verdictAnswer h v)
-  unfolding buildingAnswerBy buildingFinding buildingRisky
+  unfolding buildingAnswerBy buildingRisky
   judged-by v e none = let p = place-found v e in record { same = rw (eq-eqb (recordsFault h ss ms) 0 none, p .0); place = p .1 }
 
   module _ (f : ℕ) (q : f ≡ recordsFault h ss ms) (y : f ≡ 0) (k : ℕ) (l : k ≡ h .knowledge) where

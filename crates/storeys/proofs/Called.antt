@@ -7,7 +7,7 @@ use mathlib.Core.Path.{_≡_, refl, ap, sym, _∙_}
 use lib.Dec.{leb, eqb}
 use lib.ListN.{length, getD}
 use borrow.Author.Tests.{ne-eqb, eqb-true, leb-true, eq-eqb}
-use Rattle.records.specs.First.{pick, everyBelow, inOrder}
+use Rattle.records.specs.Notation.{pick, everyBelow, inOrder, total}
 use Rattle.records.specs.Records.{storeyFault, storeyValues, inRange}
 use Rattle.records.specs.declared.Storey.{Storey}
 use Rattle.records.specs.declared.Member.{Member}
@@ -22,8 +22,7 @@ use Rattle.storeys.specs.declared.StoreyFinding.{StoreyFinding}
 use Rattle.storeys.specs.declared.StoreyAnswer.{StoreyAnswer}
 use Rattle.storeys.specs.declared.StoreyAnswer.the-variants.{Judged, Refused}
 use Rattle.storeys.specs.declared.row.Tally.{Tally}
-use Rattle.records.specs.Totals.{total}
-use Rattle.storeys.specs.Storey.{publishedRules, wallShear, meetsWallShare, axialTotal, over, shearIfOver, overShear, storeyRisky, riskyByDamage, storeyFinding, knowledgeFault, storeyCallFault, storeyAnswerBy, storeyAnswer, returnedStorey, storeyReturned}
+use Rattle.storeys.specs.Storey.{publishedRules, wallShear, meetsWallShare, axialTotal, over, shearIfOver, overShear, storeyRisky, riskyByDamage, storeyFinding, knowledgeFault, storeyCallFault, storeyAnswerBy, returnedStorey, storeyReturned}
 use Rattle.checks.specs.Rows.{countFault, memberIn, memberRowsFault}
 use Rattle.records.specs.Blank.{noMember}
 use Rattle.storeys.specs.Tally.{tallyOf, Rows, Small, foundBy, headFault}
@@ -76,7 +75,7 @@ module _ (k : ℕ) (s : Storey) (rows : List Member) (first : ℕ) (h : first �
       in-order-last (countFault (s .count) (length rows) ∷ knowledgeFault k ∷ storeyFault s ∷ []) (memberRowsFault rows)
       ∙ ap (λ (x : ℕ). pick (eqb x 0) (memberRowsFault rows) x) (sym h)
 
-  refused-is : (n : ℕ) → storeyCallFault k s rows ≡ n → (n ≡ 0 → ⊥) → Refused n ≡ storeyAnswer k s rows
+  refused-is : (n : ℕ) → storeyCallFault k s rows ≡ n → (n ≡ 0 → ⊥) → Refused n ≡ storeyAnswerBy publishedRules k s rows
   unfolding storeyAnswerBy
   refused-is n e ne = rw e (simp (ne-eqb n 0 ne))
 
@@ -117,7 +116,7 @@ module _ (k : ℕ) (s : Storey) (rows : List Member) (first : ℕ) (h : first �
     rows-clear y = record { good = sym fp ∙ y; most = omega (arith, count-is, count-most s storey-clear) }
 
     module _ (y : f ≡ 0) where
-      found-by : (x : StoreyFinding) → x ≡ storeyFinding publishedRules k (s .shear) rows → Judged x ≡ storeyAnswer k s rows
+      found-by : (x : StoreyFinding) → x ≡ storeyFinding publishedRules k (s .shear) rows → Judged x ≡ storeyAnswerBy publishedRules k s rows
       unfolding storeyAnswerBy
       found-by x q = rw (q, eq-eqb _ _ (after ∙ y))
 

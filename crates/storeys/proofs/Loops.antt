@@ -8,7 +8,7 @@ use mathlib.Core.Path.{_≡_, refl, ap, sym, _∙_}
 use lib.Dec.{eqb}
 use lib.ListN.{length, drop, getD, drop-of-length-le}
 use lib.Seq.{drop-cons}
-use Rattle.records.specs.First.{pick}
+use Rattle.records.specs.Notation.{pick, total, anyOf}
 use Rattle.records.specs.Records.{memberFault}
 use Rattle.records.specs.Valid.{Valid}
 use Rattle.records.specs.declared.Member.{Member}
@@ -17,7 +17,6 @@ use Rattle.records.proofs.Validity.{valid}
 use Rattle.members.specs.Units.{ratioCap}
 use Rattle.members.specs.Class.{isWall}
 use Rattle.members.specs.Finding.{axialRatioD, knowledge, flag}
-use Rattle.records.specs.Totals.{total, anyOf}
 use Rattle.storeys.specs.Storey.{publishedRules, wallShear, axialTotal, over, shearIfOver, overShear, someOver, damaged}
 use Rattle.checks.specs.Rows.{memberIn, rowFault, memberRowsFault}
 use Rattle.records.specs.Blank.{noMember}

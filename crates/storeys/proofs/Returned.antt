@@ -15,8 +15,8 @@ use Rattle.storeys.specs.declared.StoreyAnswer.the-variants as storey
 use Rattle.storeys.specs.declared.BuildingFinding.{BuildingFinding}
 use Rattle.storeys.specs.declared.BuildingAnswer.{BuildingAnswer}
 use Rattle.storeys.specs.declared.BuildingAnswer.the-variants as building
-use Rattle.storeys.specs.Storey.{Rules, storeyFindingValues, returnedStorey}
-use Rattle.storeys.specs.Building.{buildingFindingValues, buildingAnswerBy, placeIn, Answers, returnedBuilding}
+use Rattle.storeys.specs.Storey.{Rules, returnedStorey}
+use Rattle.storeys.specs.Building.{buildingAnswerBy, placeIn, Answers, returnedBuilding}
 
 abbrev storey-of : List ℕ → StoreyFinding
 storey-of vs =
@@ -29,7 +29,7 @@ storey-of vs =
       «walls_suffice» = eqb (getD vs 5 0) 1;
     }
 
-storey-told : (f : StoreyFinding) → storey-of (storeyFindingValues f) ≡ f
+storey-told : (f : StoreyFinding) → storey-of (returnedStorey (storey.Judged f) .values) ≡ f
 storey-told f = rw (flag-told (f .risky), flag-told (f .«walls_suffice»))
 
 abbrev storey-by : ℕ → List ℕ → StoreyAnswer
@@ -46,7 +46,7 @@ storey-answer-is a b e = sym (storey-answer-told a) ∙ ap (λ (r : Returned). s
 abbrev building-of : List ℕ → BuildingFinding
 building-of vs = record { tilted = eqb (getD vs 0 0) 1; risky = eqb (getD vs 1 0) 1; place = getD vs 2 0 }
 
-building-told : (f : BuildingFinding) → building-of (buildingFindingValues f) ≡ f
+building-told : (f : BuildingFinding) → building-of (returnedBuilding (building.Judged f) .values) ≡ f
 building-told f = rw (flag-told (f .tilted), flag-told (f .risky))
 
 abbrev building-by : ℕ → List ℕ → BuildingAnswer

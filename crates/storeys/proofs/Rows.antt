@@ -16,7 +16,8 @@ use Rattle.members.proofs.Returned.{answer-is}
 use Rattle.members.specs.declared.finding.Finding.{Finding}
 use Rattle.members.specs.declared.finding.MemberAnswer.{MemberAnswer}
 use Rattle.members.specs.declared.finding.MemberAnswer.the-variants.{Judged, Refused}
-use Rattle.members.specs.Finding.{axial, axialRatioD, finding, findingBy, knowledge, answerBy, memberAnswer, returned, memberReturned}
+use Rattle.members.specs.Tables.{published}
+use Rattle.members.specs.Finding.{axial, axialRatioD, finding, findingBy, knowledge, answerBy, returned, memberReturned}
 
 -- the products of the share test fit
 pub share-left : (w d : ℕ) → w ≤ 9_999_999 → d ≤ 1_300_000 → 7 * w * d ≤ 90_999_990_900_000
@@ -62,15 +63,15 @@ module _ (shear c : ℕ) (t : Tally) where
 
 -- ---- a good member is judged, and its n_D is a ratio
 module _ (k : ℕ) (met : Bool) (m : Member) (h : knowledge k ≡ true) (g : memberFault m ≡ 0) where
-  judged-good : memberAnswer k met m ≡ Judged (finding k met m)
+  judged-good : answerBy published k met m ≡ Judged (finding k met m)
   unfolding answerBy
   judged-good = rw (h, g)
 
   pub finding-same : (r : MemberAnswer) (f : Finding) → returned r ≡ memberReturned k met m → r ≡ Judged f → f ≡ finding k met m
-  finding-same r f p q = let e = judged-good in let a = answer-is r (memberAnswer k met m) p in cc
+  finding-same r f p q = let e = judged-good in let a = answer-is r (answerBy published k met m) p in cc
 
   pub not-refused : (r : MemberAnswer) (n : ℕ) → returned r ≡ memberReturned k met m → r ≡ Refused n → ⊥
-  not-refused r n p q = let e = judged-good in let a = answer-is r (memberAnswer k met m) p in let z : _≡_ {A = ℕ} 0 1 = cc in omega arith
+  not-refused r n p q = let e = judged-good in let a = answer-is r (answerBy published k met m) p in let z : _≡_ {A = ℕ} 0 1 = cc in omega arith
 
 pub nd-most : (m : Member) → axialRatioD m .0 ≤ ratioCap
 unfolding axial

@@ -11,7 +11,7 @@ use borrow.Kind.Bool.{pBool}
 use borrow.Kind.ShrSlice.{pShrS}
 use Rattle.records.specs.Records.{storeyFault}
 use Rattle.members.specs.Finding.{knowledge}
-use Rattle.records.specs.Totals.{total}
+use Rattle.records.specs.Notation.{total}
 use Rattle.storeys.specs.Storey.{publishedRules, wallShear, storeyFinding, returnedStorey, storeyReturned}
 use Rattle.storeys.specs.Tally.{tallyOf, Rows}
 use Rattle.storeys.specs.Building.{Answers as Answered}

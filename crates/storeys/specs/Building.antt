@@ -1,20 +1,9 @@
 -- The judgment of a building (document 01, "Storey and building", "Refusals as returned"): any header with any rows of storeys and members.
-use Prim.Native.Nat.{ℕ, _+_, _<_, max}
-use mathlib.Core.Bool.{Bool, true, false, _||_}
-use mathlib.Core.List.{List, [], _∷_}
-use mathlib.Core.Path.{_≡_}
-use lib.Dec.{ltb, eqb}
-use lib.ListN.{length}
-use Rattle.records.specs.First.{pick, anyBelow}
-use Rattle.records.specs.declared.Header.{Header}
-use Rattle.records.specs.declared.Storey.{Storey}
-use Rattle.records.specs.declared.Member.{Member}
-use Rattle.members.specs.Finding.{flag, Returned, refused}
-use Rattle.storeys.specs.declared.BuildingFinding.{BuildingFinding}
-use Rattle.storeys.specs.declared.BuildingAnswer.{BuildingAnswer}
-use Rattle.storeys.specs.declared.BuildingAnswer.the-variants.{Judged, Refused}
-use Rattle.storeys.specs.Storey.{Rules, publishedRules, storeyRisky}
-use Rattle.checks.specs.Rows.{recordsFault, storeyIn, membersOf}
+use Rattle.records.specs.Notation.{ℕ, _+_, _<_, max, Bool, true, false, _||_, List, [], _∷_, _≡_, ltb, eqb, length, pick, anyBelow}
+use Rattle.checks.specs.Rows.{Header, Storey, Member, recordsFault, storeyIn, membersOf}
+use Rattle.members.specs.Finding.{flag, Returned, found, refused}
+use Rattle.storeys.specs.Storey.{Rules, storeyRisky}
+use Rattle.storeys.specs.declared.BuildingAnswer.{BuildingAnswer, the-variants.Judged, the-variants.Refused}
 
 -- storey i is Risky
 unfoldable pub riskyAt : Rules → ℕ → List Storey → List Member → ℕ → Bool
@@ -36,12 +25,10 @@ unfoldable pub buildingRisky : Rules → Header → List Storey → List Member 
 buildingRisky rules h ss ms = someRisky rules h ss ms || tilted h
 
 -- the finding, with the place that it names; before it the refusals of the records
-unfoldable pub buildingFinding : Rules → Header → List Storey → List Member → ℕ → BuildingFinding
-buildingFinding rules h ss ms place = record { tilted = tilted h; risky = buildingRisky rules h ss ms; place = place }
-
 unfoldable pub buildingAnswerBy : Rules → Header → List Storey → List Member → ℕ → BuildingAnswer
 buildingAnswerBy rules h ss ms place =
-    pick (eqb (recordsFault h ss ms) 0) (Judged (buildingFinding rules h ss ms place)) (Refused (recordsFault h ss ms))
+    pick (eqb (recordsFault h ss ms) 0) (Judged (record { tilted = tilted h; risky = buildingRisky rules h ss ms; place = place }))
+    (Refused (recordsFault h ss ms))
 
 -- "names a Risky storey's place, counted from 1. Which one is free where several are; 0 where none is"
 pub data PlaceOk (rules : Rules) (h : Header) (ss : List Storey) (ms : List Member) : ℕ → Type 0 where
@@ -57,21 +44,10 @@ abbrev pub PlaceInOk : Rules → Header → List Storey → List Member → Buil
 PlaceInOk rules h ss ms (Judged f) = PlaceOk rules h ss ms (f .place)
 PlaceInOk rules h ss ms (Refused n) = Unit
 
--- the values of a printed building, and the place
-abbrev pub buildingFindingValues : BuildingFinding → List ℕ
-buildingFindingValues f = flag (f .tilted) ∷ flag (f .risky) ∷ f .place ∷ []
-
-abbrev pub buildingFound : BuildingFinding → Returned
-buildingFound f = record { refusal = 0; line = 0; values = buildingFindingValues f }
-
--- what each case of the answer says
+-- what each case of the answer says: the values of a printed building, and the place
 abbrev pub returnedBuilding : BuildingAnswer → Returned
-returnedBuilding (Judged f) = buildingFound f
+returnedBuilding (Judged f) = found (flag (f .tilted) ∷ flag (f .risky) ∷ f .place ∷ [])
 returnedBuilding (Refused n) = refused n
-
--- what the paper returns, with the place that the answer names
-abbrev pub buildingReturned : Header → List Storey → List Member → ℕ → Returned
-buildingReturned h ss ms place = returnedBuilding (buildingAnswerBy publishedRules h ss ms place)
 
 -- what the call on a building answers: all but the place is equated
 pub record Answers (rules : Rules) (h : Header) (ss : List Storey) (ms : List Member) (r : BuildingAnswer) : Type 0 where

@@ -1,33 +1,19 @@
 -- The judgment of a storey (document 01, "Storey and building", "Refusals as returned"): any storey record with any rows of members.
-use Prim.Native.Nat.{ℕ, _+_, _-_, _*_}
-use mathlib.Core.Bool.{Bool, _&&_, _||_}
-use mathlib.Core.List.{List, [], _∷_}
-use lib.Dec.{leb, ltb, eqb}
-use lib.ListN.{length}
-use Rattle.records.specs.First.{pick, inOrder, first}
-use Rattle.records.specs.Records.{storeyFault}
-use Rattle.records.specs.declared.Storey.{Storey}
-use Rattle.records.specs.declared.Member.{Member}
-use Rattle.members.specs.Units.{shareFrom, shareTo}
-use Rattle.members.specs.Class.{isWall}
-use Rattle.members.specs.Tables.{two, published}
-use Rattle.members.specs.Finding.{axialRatioD, findingBy, knowledge, flag, Returned, refused}
-use Rattle.members.specs.declared.tables.Two.{Two}
-use Rattle.members.specs.declared.tables.LimitSet.{LimitSet}
-use Rattle.storeys.specs.declared.StoreyFinding.{StoreyFinding}
-use Rattle.storeys.specs.declared.StoreyAnswer.{StoreyAnswer}
-use Rattle.storeys.specs.declared.StoreyAnswer.the-variants.{Judged, Refused}
-use Rattle.records.specs.Totals.{total, anyOf}
+use Rattle.records.specs.Notation.{ℕ, _+_, _-_, _*_, Bool, _&&_, _||_, List, [], _∷_, leb, ltb, eqb, length, pick, inOrder, total, anyOf}
+use Rattle.records.specs.{declared.Storey.Storey, declared.Member.Member, Records.storeyFault}
 use Rattle.checks.specs.Rows.{countFault, memberRowsFault}
+use Rattle.members.specs.{declared.tables.Two.Two, declared.tables.LimitSet.LimitSet, Class.isWall, Tables.two, Tables.published}
+use Rattle.members.specs.Finding.{axialRatioD, findingBy, knowledge, flag, Returned, found, refused}
+use Rattle.storeys.specs.declared.{StoreyFinding.StoreyFinding, StoreyAnswer.StoreyAnswer, StoreyAnswer.the-variants.Judged, StoreyAnswer.the-variants.Refused}
 
 -- what a survey is judged by: the limits of the members, and the axial ratios per member between which the allowed share falls
 pub record Rules : Type 0 where
   pub limits : LimitSet
   pub ends : Two
 
--- the rules that document 01 publishes
+-- the rules that document 01 publishes; the ends are ten-thousandths, as n_D is
 abbrev pub publishedRules : Rules
-publishedRules = record { limits = published; ends = two shareFrom shareTo }
+publishedRules = record { limits = published; ends = two 1_000 6_500 }
 
 -- the V of a wall, and of a column nothing
 abbrev pub wallShear : Member → ℕ
@@ -102,22 +88,11 @@ unfoldable pub storeyAnswerBy : Rules → ℕ → Storey → List Member → Sto
 storeyAnswerBy rules k s ms =
     pick (eqb (storeyCallFault k s ms) 0) (Judged (storeyFinding rules k (s .shear) ms)) (Refused (storeyCallFault k s ms))
 
--- the answer on a storey, by the published rules
-abbrev pub storeyAnswer : ℕ → Storey → List Member → StoreyAnswer
-storeyAnswer = storeyAnswerBy publishedRules
-
--- the values of a printed storey after its number, and the 0.40 condition
-abbrev pub storeyFindingValues : StoreyFinding → List ℕ
-storeyFindingValues f = f .«axial_total» ∷ f .members ∷ f .«over_shear» ∷ f .shear ∷ flag (f .risky) ∷ flag (f .«walls_suffice») ∷ []
-
-abbrev pub storeyFound : StoreyFinding → Returned
-storeyFound f = record { refusal = 0; line = 0; values = storeyFindingValues f }
-
--- what each case of the answer says
+-- what each case of the answer says: the values of a printed storey after its number, and the 0.40 condition
 abbrev pub returnedStorey : StoreyAnswer → Returned
-returnedStorey (Judged f) = storeyFound f
+returnedStorey (Judged f) = found (f .«axial_total» ∷ f .members ∷ f .«over_shear» ∷ f .shear ∷ flag (f .risky) ∷ flag (f .«walls_suffice») ∷ [])
 returnedStorey (Refused n) = refused n
 
--- what the paper returns
+-- what the paper returns, by the published rules
 abbrev pub storeyReturned : ℕ → Storey → List Member → Returned
-storeyReturned k s ms = returnedStorey (storeyAnswer k s ms)
+storeyReturned k s ms = returnedStorey (storeyAnswerBy publishedRules k s ms)

@@ -5,7 +5,7 @@ use mathlib.Core.List.{List, [], _∷_}
 use mathlib.Core.Path.{_≡_}
 use lib.Dec.{leb, ltb, eqb}
 use lib.ListN.{length}
-use Rattle.records.specs.First.{pick, inOrder}
+use Rattle.records.specs.Notation.{pick, inOrder}
 use Rattle.records.specs.Records.{storeyFault, memberFault}
 use Rattle.records.specs.declared.Storey.{Storey}
 use Rattle.records.specs.declared.Member.{Member}

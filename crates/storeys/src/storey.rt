@@ -3,7 +3,7 @@ ghost use mathlib.Core.Path.{_≡_};
 ghost use mathlib.Core.Bool.{true};
 ghost use Rattle.records.specs.Records.{storeyFault};
 ghost use Rattle.members.specs.Finding.{knowledge};
-ghost use Rattle.records.specs.Totals.{total};
+ghost use Rattle.records.specs.Notation.{total};
 ghost use Rattle.storeys.specs.Storey.{publishedRules, wallShear, storeyFinding, returnedStorey, storeyReturned};
 ghost use Rattle.storeys.specs.Tally.{tallyOf, Rows};
 use crate::StoreyFinding;

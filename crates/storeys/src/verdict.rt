@@ -2,7 +2,7 @@
 ghost use mathlib.Core.Path.{_≡_};
 ghost use mathlib.Core.Bool.{_||_};
 ghost use lib.Dec.{ltb};
-ghost use Rattle.records.specs.First.{pick};
+ghost use Rattle.records.specs.Notation.{pick};
 ghost use Rattle.storeys.specs.Building.{tilted};
 ghost use Rattle.storeys.specs.Verdict.{noVerdict, notedBy, verdictAnswer};
 use crate::BuildingAnswer;

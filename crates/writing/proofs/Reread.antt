@@ -8,8 +8,7 @@ use lib.ListN.{length, take, drop, getD, length-drop}
 use lib.Seq.{drop-cons, drop-drop, drop-at, take-suc, take-add, take-all, take-length, drop-length}
 use borrow.Author.Tests.{lt-ltb, le-ltb, eq-eqb}
 use Rattle.records.specs.Blank.{noStorey, noMember}
-use Rattle.records.specs.First.{inOrder}
-use Rattle.records.specs.Totals.{listed}
+use Rattle.records.specs.Notation.{inOrder, listed}
 use Rattle.records.specs.Records.{headerValues, storeyValues, memberValues, storeyFault, memberFault, repeated}
 use Rattle.records.specs.declared.Header.{Header}
 use Rattle.records.specs.declared.Storey.{Storey}
@@ -25,7 +24,7 @@ use Rattle.format.specs.Lines.{headerAt, storeyAt}
 use Rattle.format.specs.Text.{lineText}
 use Rattle.format.proofs.LineText.{Clean}
 use Rattle.format.proofs.Typed.{length-line, drop-past, header-typed, storey-typed, member-typed}
-use Rattle.reading.specs.Survey.{lineStart, lineNumber, membersBefore, storey, memberStart, member, shape, unheld, headerLineFault, storeyLineFault, memberLineFault, noFault, at-line, firstFault, membersFault, storeysFault, surveyFault, firstStoreys, firstMembers, accepted, survey}
+use Rattle.reading.specs.Survey.{lineStart, lineNumber, membersBefore, storey, memberStart, member, shape, unheld, headerLineFault, storeyLineFault, memberLineFault, noFault, at-line, firstFault, membersFault, storeysFault, surveyFault, firstMembers, accepted, survey}
 use Rattle.reading.proofs.Passed.{repeated-same}
 use Rattle.writing.specs.File.{membersText, storeyText, storeysText, fileText}
 use Rattle.writing.proofs.Storeys.{length-members}
@@ -204,7 +203,7 @@ module _ (s : List ℕ) (h : Header) (ss : List Storey) (ms : List Member) (f : 
         rw (header-none, count-is, le-ltb (lineStart (length ss) (membersBefore s (length ss))) (length s) nothing-after, eq-eqb _ _ k)
 
     -- ---- what it holds
-    storeys-are : firstStoreys s (length ss) ≡ ss
+    storeys-are : listed (storey s) (length ss) ≡ ss
     storeys-are = listed-all (storey s) ss noStorey (length ss) refl storey-is
 
     members-are : (i : ℕ) → i ≤ length ss → firstMembers s i ≡ take (before i) ms
@@ -220,6 +219,6 @@ module _ (s : List ℕ) (h : Header) (ss : List Storey) (ms : List Member) (f : 
     pub read-is : survey s srows mrows ≡ accepted h ss ms
     unfolding survey
     read-is =
-        let p : firstStoreys s (headerAt s 0 .count) ≡ ss = rw count-is storeys-are in
+        let p : listed (storey s) (headerAt s 0 .count) ≡ ss = rw count-is storeys-are in
         let q : firstMembers s (headerAt s 0 .count) ≡ ms = rw count-is all-members in
         rw (eq-eqb _ _ file-none, p, q, ← header-is .1)

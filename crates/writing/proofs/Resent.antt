@@ -11,8 +11,8 @@ use lib.Seq.{take-all, take-append-le, drop-append-le}
 use borrow.Author.Tests.{eqb-true}
 use Rattle.records.specs.Records.{storeyValues, memberValues}
 use Rattle.format.specs.Lines.{headerAt}
-use Rattle.reading.specs.Survey.{lineStart, membersBefore, storey, memberStart, member, surveyFault, firstStoreys, firstMembers, accepted, survey}
-use Rattle.records.specs.Totals.{listed, total}
+use Rattle.reading.specs.Survey.{lineStart, membersBefore, storey, memberStart, member, surveyFault, firstMembers, accepted, survey}
+use Rattle.records.specs.Notation.{listed, total}
 use Rattle.format.specs.Text.{lineText}
 use Rattle.writing.specs.File.{membersText, storeyText, storeysText, fileText}
 use Rattle.records.specs.declared.Header.{Header}
@@ -50,7 +50,7 @@ module _ (s : List ℕ) (srows mrows : ℕ) (z : surveyFault s srows mrows .numb
       members-text i c h (omega arith)
       ∙ rw (member-text s (memberStart s i c) (member-clean s srows mrows z i h c l), p, members-more (listed (member s i) c) (member s i c ∷ [])) (simp (append-assoc, append-nil))
 
-  storeys-text : (i : ℕ) → i ≤ headerAt s 0 .count → drop 50 s ≡ storeysText (firstStoreys s i) (firstMembers s i) ++ drop (lineStart i (membersBefore s i)) s
+  storeys-text : (i : ℕ) → i ≤ headerAt s 0 .count → drop 50 s ≡ storeysText (listed (storey s) i) (firstMembers s i) ++ drop (lineStart i (membersBefore s i)) s
   unfolding listed firstMembers membersBefore storeysText
   storeys-text zero h = refl
   storeys-text (suc i) h =
@@ -62,11 +62,11 @@ module _ (s : List ℕ) (srows mrows : ℕ) (z : surveyFault s srows mrows .numb
         p,
         members-text i (storey s i .count) h (le-refl _),
         q,
-        storeys-more (storey s i) (listed (member s i) (storey s i .count)) (sym (length-listed (member s i) (storey s i .count))) (firstStoreys s i) (firstMembers s i) (total-all s i ∙ sym (length-members s i)),
+        storeys-more (storey s i) (listed (member s i) (storey s i .count)) (sym (length-listed (member s i) (storey s i .count))) (listed (storey s) i) (firstMembers s i) (total-all s i ∙ sym (length-members s i)),
       )
       (simp append-assoc)
 
-  file-text : s ≡ fileText (headerAt s 0) (firstStoreys s (headerAt s 0 .count)) (firstMembers s (headerAt s 0 .count))
+  file-text : s ≡ fileText (headerAt s 0) (listed (storey s) (headerAt s 0 .count)) (firstMembers s (headerAt s 0 .count))
   unfolding fileText
   file-text =
       header-text s 0 (header-clean s srows mrows z)

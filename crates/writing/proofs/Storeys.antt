@@ -7,7 +7,7 @@ use mathlib.Core.Path.{_≡_, refl, ap, sym, _∙_}
 use lib.ListN.{length, take, drop, length-append, length-drop, drop-of-length-le}
 use lib.Seq.{drop-cons, drop-drop, length-take-le}
 use Rattle.records.specs.Blank.{noStorey, noMember}
-use Rattle.records.specs.Totals.{total}
+use Rattle.records.specs.Notation.{total}
 use Rattle.records.specs.Records.{storeyValues, memberValues}
 use Rattle.records.specs.declared.Storey.{Storey}
 use Rattle.records.specs.declared.Member.{Member}

@@ -6,7 +6,7 @@ use lib.ListN.{length}
 use borrow.Author.Tests.{ltb-true, ltb-false, eqb-true, eqb-false, not-true, not-false}
 use Rattle.records.specs.Blank.{noMember}
 use Rattle.checks.specs.Rows.{rowFault}
-use Rattle.records.specs.First.{first}
+use Rattle.records.specs.Notation.{first}
 use Rattle.checks.proofs.RowLoops.{clear-none, refused-here, clear-next, clear-all}
 use contract.Lifetimes.{Lfts, Shares}
 use contract.Running.{tablesOf}

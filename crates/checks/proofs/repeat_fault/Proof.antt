@@ -7,7 +7,7 @@ use lib.Dec.{eqb}
 use borrow.Author.Tests.{ltb-true, ltb-false}
 use Rattle.records.specs.Blank.{noMember}
 use Rattle.checks.specs.Rows.{memberIn}
-use Rattle.records.specs.First.{anyBelow}
+use Rattle.records.specs.Notation.{anyBelow}
 use Rattle.checks.proofs.RowLoops.{unseen, unseen-next, seen-here, unseen-all}
 use contract.Lifetimes.{Lfts, Shares}
 use contract.Running.{tablesOf}

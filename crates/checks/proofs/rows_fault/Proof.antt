@@ -2,7 +2,7 @@ use native.Mathlib.Omega.{arith}
 use lib.ListN.{length}
 use lib.Dec.{eqb}
 use borrow.Author.Tests.{ltb-true, ltb-false, eqb-true, eqb-false, not-true, not-false}
-use Rattle.records.specs.First.{first}
+use Rattle.records.specs.Notation.{first}
 use Rattle.records.specs.Blank.{noStorey}
 use Rattle.checks.specs.Rows.{membersBefore, storeyRowsFault}
 use Rattle.checks.proofs.RowLoops.{none-before, next-before, next-within, rows-none, rows-all, own-refused, members-refused, rows-next}

@@ -2,7 +2,7 @@ use native.Mathlib.Omega.{arith}
 use lib.Dec.{eqb}
 use borrow.Author.Tests.{ltb-true, ltb-false}
 use mathlib.Core.Bool.{false}
-use Rattle.records.specs.First.{anyBelow}
+use Rattle.records.specs.Notation.{anyBelow}
 use Rattle.records.specs.Blank.{noStorey}
 use Rattle.checks.specs.Rows.{storeyIn}
 use Rattle.checks.proofs.RowLoops.{repeat-none, repeat-next, repeat-found, repeat-all}

@@ -4,7 +4,9 @@ use lib.Dec.{eqb}
 use borrow.Author.Tests.{not-true, not-false, eq-eqb, ne-eqb}
 use Rattle.records.specs.Records.{memberFault}
 use Rattle.records.proofs.Validity.{valid}
-use Rattle.members.specs.Finding.{finding, knowledge, answerBy, found, refused}
+use Rattle.members.specs.declared.finding.Finding.{Finding}
+use Rattle.members.specs.declared.finding.MemberAnswer.the-variants.{Judged}
+use Rattle.members.specs.Finding.{finding, knowledge, answerBy, returned, refused}
 use Rattle.members.proofs.Assembly.{level-sized, published-sized}
 use borrow.Author.Needs.{needs}
 use Rattle.members.proofs.finding.judge_member.Statement.{statement}
@@ -46,7 +48,7 @@ returns-3 c =
     let e : knowledge (a .k) ≡ true = sym (c .before .before .before .before .before .known .ensures) ∙ not-false _ (c .before .before .before .before .if1 .left) in
     let g : eqb (memberFault (a .m)) 0 ≡ true = rw (← c .before .before .before .member-fault .ensures) (eq-eqb _ _ (c .before .before .if2 .left)) in
     let f : c .judge .result ≡ finding (a .k) (a .met) (a .m) = rw (← c .before .published .ensures) (c .judge .ensures) in
-    simp (e, g) (ap found f)
+    simp (e, g) (ap (λ (g : Finding). returned (Judged g)) f)
 
 pub judge-member-spec : {M : Type 1} → statement M
 judge-member-spec =

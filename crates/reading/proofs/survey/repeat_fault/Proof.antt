@@ -6,7 +6,7 @@ use borrow.Author.Needs.{needs}
 use lib.ListN.{getD}
 use lib.Dec.{eqb}
 use borrow.Author.Tests.{eq-eqb, ne-eqb}
-use Rattle.records.specs.First.{anyBelow}
+use Rattle.records.specs.Notation.{anyBelow}
 use Rattle.records.proofs.Below.{any-none, any-more, any-holds}
 use Rattle.reading.proofs.survey.repeat_fault.Statement.{statement}
 use Rattle.reading.proofs.survey.repeat_fault.Tie as tie

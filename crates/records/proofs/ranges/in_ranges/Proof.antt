@@ -5,7 +5,7 @@ use mathlib.Core.Bool.{true}
 use mathlib.Core.Path.{_≡_, _∙_, sym}
 use native.Mathlib.Omega.{arith}
 use borrow.Author.Needs.{needs}
-use Rattle.records.specs.First.{everyBelow}
+use Rattle.records.specs.Notation.{everyBelow}
 use Rattle.records.proofs.Allowing.{fields-most}
 use Rattle.records.proofs.Below.{every-none, every-more, every-fails}
 use Rattle.records.proofs.ranges.in_ranges.Statement.{statement}

@@ -5,7 +5,7 @@ use mathlib.Core.Path.{_≡_, _∙_, sym}
 use lib.ListN.{getD}
 use borrow.Author.Needs.{needs}
 use borrow.Author.Tests.{not-true, not-false}
-use Rattle.records.specs.First.{everyBelow}
+use Rattle.records.specs.Notation.{everyBelow}
 use Rattle.records.specs.Records.{inRange}
 use Rattle.records.specs.declared.Tag.the-variants.{M}
 use Rattle.records.proofs.Allowing.{in-tables}

@@ -1,7 +1,7 @@
 use mathlib.Core.Bool.{true, false}
 use mathlib.Core.Path.{_≡_, _∙_, sym}
 use borrow.Author.Tests.{not-true, not-false}
-use Rattle.records.specs.First.{everyBelow}
+use Rattle.records.specs.Notation.{everyBelow}
 use Rattle.records.specs.declared.Tag.the-variants.{S, M}
 use Rattle.records.specs.Records.{inRange, storeyValues, storeyFault}
 use borrow.Author.Needs.{needs}

@@ -6,7 +6,7 @@ use lib.ListN.{length, drop}
 use borrow.Author.Tests.{ltb-true, ltb-false}
 use Rattle.records.specs.Blank.{noMember}
 use Rattle.storeys.specs.Storey.{wallShear}
-use Rattle.records.specs.Totals.{total}
+use Rattle.records.specs.Notation.{total}
 use Rattle.storeys.proofs.Loops.{wall-room, wall-next, wall-all}
 use contract.Lifetimes.{Lfts, Shares}
 use contract.Running.{tablesOf}

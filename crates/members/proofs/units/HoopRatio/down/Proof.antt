@@ -1,6 +1,6 @@
 use native.Mathlib.Omega.{arith}
 use mathlib.Core.Path.{ap}
-use Rattle.members.specs.Units.{hoop}
+use Rattle.members.proofs.Rounding.{hoop}
 use borrow.Author.Needs.{needs}
 use Rattle.members.proofs.units.HoopRatio.down.Statement.{statement}
 use Rattle.members.proofs.units.HoopRatio.down.Tie as tie

@@ -1,6 +1,6 @@
 use native.Mathlib.Omega.{arith}
 use mathlib.Core.Path.{ap}
-use Rattle.members.specs.Units.{microradians}
+use Rattle.members.proofs.Rounding.{microradians}
 use borrow.Author.Needs.{needs}
 use Rattle.members.proofs.units.Microradians.steps.Statement.{statement}
 use Rattle.members.proofs.units.Microradians.steps.Tie as tie

@@ -1,6 +1,6 @@
 use native.Mathlib.Omega.{arith}
 use mathlib.Core.Path.{ap}
-use Rattle.members.specs.Units.{ratio}
+use Rattle.members.proofs.Rounding.{ratio}
 use borrow.Author.Needs.{needs}
 use Rattle.members.proofs.units.Ratio.up.Statement.{statement}
 use Rattle.members.proofs.units.Ratio.up.Tie as tie
