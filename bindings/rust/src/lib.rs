@@ -165,6 +165,25 @@ pub fn report<'a>(header: &Header, storeys: &[Storey], members: &[Member], sheet
     Ok(front(sheet, length))
 }
 
+/// Writes a survey, given as for its judgment, as a file to the front of the bytes; those after it are left alone. It has 50 bytes, 26 for each
+/// storey and 210 for each member. Read back it gives the same records. Refused as the judgment is, then by 11 where the file does not fit:
+/// all bytes are left alone.
+///
+/// ```
+/// let file = std::fs::read("../../samples/worked-example.survey")?;
+/// # let (mut storeys, mut members) = ([llunareth::Storey::default(); 10], [llunareth::Member::default(); 320]);
+/// let survey = llunareth::read(&file, &mut storeys, &mut members)?;
+/// let mut bytes = [0; 1_000];
+/// assert_eq!(llunareth::write(&survey.header, survey.storeys, survey.members, &mut bytes)?, file);
+/// let refusal = llunareth::write(&survey.header, survey.storeys, survey.members, &mut bytes[..file.len() - 1]).unwrap_err();
+/// assert_eq!(refusal.number, 11);
+/// # Ok::<(), Box<dyn std::error::Error>>(())
+/// ```
+pub fn write<'a>(header: &Header, storeys: &[Storey], members: &[Member], file: &'a mut [u8]) -> Result<&'a [u8], Refusal> {
+    let [length] = values::<{ raw::WRITE_VALUES }>(|out| raw::write(&<[u64; 6]>::from(*header), storeys, members, file, out))?;
+    Ok(front(file, length))
+}
+
 /// What the program `determine` prints for a file, put to the front of the bytes; those after it are left alone. There is no refusal: the
 /// text is the answer, the sheet or the line `E` (26 bytes) with refusal and line, 8 and 0 where the file is longer than 65,536 bytes, 9 and 0
 /// where the sheet does not fit. Where the line `E` does not fit, it is empty and all bytes are left alone. 28,286 bytes hold every sheet.
