@@ -1,14 +1,14 @@
 -- The checks of a line: what it holds, and its first refusal.
 use Prim.Native.Nat.{ℕ, _+_, _*_}
 use native.Mathlib.Omega.{arith}
-use mathlib.Core.Bool.{Bool, true, false}
+use mathlib.Core.Bool.{Bool, true, false, _&&_}
 use mathlib.Core.List.{List}
 use mathlib.Core.Path.{_≡_, ap, sym, _∙_}
 use lib.Dec.{eqb}
 use lib.ListN.{length, drop, getD}
-use borrow.Author.Tests.{leb-true}
+use borrow.Author.Tests.{leb-true, eqb-true}
 use Rattle.records.specs.Notation.{pick}
-use Rattle.records.specs.Records.{fields, memberValues, headerFault, storeyFault, memberFault, headerBy, storeyBy, memberBy}
+use Rattle.records.specs.Records.{fields, headerValues, storeyValues, memberValues, headerFault, storeyFault, memberFault, headerBy, storeyBy, memberBy}
 use Rattle.format.specs.Lines.{shaped, valueAt, fieldsFault, headerAt, storeyAt, memberAt, framed, holdsFields, FieldsOf}
 use Rattle.format.specs.Steps.{FieldsHeld}
 use Rattle.reading.specs.Survey.{headerLineFault}
@@ -23,8 +23,8 @@ use Rattle.format.proofs.Fields.{all-clear, fields-held, fault-held}
 use Rattle.format.proofs.Shape.{shaped-fits}
 use Rattle.format.proofs.Held.{header-held, storey-held, member-held, from-first}
 use Rattle.format.proofs.Framed.{framed-shaped}
-use Rattle.records.proofs.Below.{and-left}
-use Rattle.records.proofs.Validity.{member-ranged}
+use Rattle.records.proofs.Below.{and-left, and-right}
+use Rattle.records.proofs.Validity.{header-ranged, storey-ranged, member-ranged}
 use Rattle.records.proofs.Firsts.{last-of}
 
 -- ---- a record without a refusal, of fields that are all written: no field has one
@@ -65,6 +65,17 @@ header-shaped s f h x y r e o g k d l =
     let p = header-held s 0 (f .values) h (fields-held B s 0 f o (omega arith) .values) g in
     record { fault = l ∙ rw (fault-held B s 0 y d (omega arith), e, k, p, last-of (headerFault (headerAt s 0))); holds = λ z. p }
 
+-- the fields are all written and the record is not refused
+pub header-whole : (s : List ℕ) (f : Fields) (h : Header) (x : ℕ) → shaped B (drop 0 s) ≡ true → FieldsOf B s 0 f → h ≡ headerBy (λ (j : ℕ). getD (f .values) j 0) → x ≡ headerFault h → (f .written && eqb x 0) ≡ true → HeaderLineOf s (record { fault = 0; header = h })
+unfolding headerLineFault headerAt
+header-whole s f h x e o g k t =
+    let i = shaped-fits B s 0 e in
+    let held = fields-held B s 0 f o (omega arith) in
+    let p = header-held s 0 (f .values) h (held .values) g in
+    let z : headerFault (headerAt s 0) ≡ 0 = rw p at (sym k ∙ eqb-true x 0 (and-right (f .written) (eqb x 0) t)) in
+    let c = all-clear B s 0 (headerValues (headerAt s 0)) (from-first (valueAt B s 0) 6) (header-ranged (headerAt s 0) z) (sym (held .written) ∙ and-left (f .written) (eqb x 0) t) in
+    record { fault = rw (e, c, z); holds = λ y. p }
+
 module _ (s : List ℕ) (at : ℕ) where
   pub storey-unshaped : (held : Bool) (h : Storey) → shaped S (drop at s) ≡ false → StoreyLineOf s at held (record { fault = 1; storey = h })
   storey-unshaped held h e = record { fault = rw e; holds = λ z. let y : ⊥ = omega (arith, z) in absurd y }
@@ -77,6 +88,16 @@ module _ (s : List ℕ) (at : ℕ) where
       let i = shaped-fits S s at e in
       let p = storey-held s at (f .values) h (fields-held S s at f o (omega arith) .values) g in
       record { fault = l ∙ rw (fault-held S s at y d (omega arith), e, q, k, p, last-of (storeyFault (storeyAt s at))); holds = λ z. p }
+
+  pub storey-whole : (held : Bool) (f : Fields) (h : Storey) (x : ℕ) → shaped S (drop at s) ≡ true → held ≡ true → FieldsOf S s at f → h ≡ storeyBy (λ (j : ℕ). getD (f .values) j 0) → x ≡ storeyFault h → (f .written && eqb x 0) ≡ true → StoreyLineOf s at held (record { fault = 0; storey = h })
+  unfolding storeyAt
+  storey-whole held f h x e q o g k t =
+      let i = shaped-fits S s at e in
+      let all = fields-held S s at f o (omega arith) in
+      let p = storey-held s at (f .values) h (all .values) g in
+      let z : storeyFault (storeyAt s at) ≡ 0 = rw p at (sym k ∙ eqb-true x 0 (and-right (f .written) (eqb x 0) t)) in
+      let c = all-clear S s at (storeyValues (storeyAt s at)) (from-first (valueAt S s at) 3) (storey-ranged (storeyAt s at) z) (sym (all .written) ∙ and-left (f .written) (eqb x 0) t) in
+      record { fault = rw (e, q, c, z); holds = λ y. p }
 
   pub member-unshaped : (held : Bool) → shaped M (drop at s) ≡ false → MemberLineOf s at held (record { fault = 1; number = 0 })
   member-unshaped held e = record { fault = rw e; number = λ z. let y : ⊥ = omega (arith, z) in absurd y }

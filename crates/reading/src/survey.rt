@@ -1,5 +1,6 @@
 // The check of a whole survey file: its first refusal, with the line.
 ghost use mathlib.Core.Path.{_≡_};
+ghost use mathlib.Core.Bool.{_&&_};
 ghost use Prim.Native.Nat.{ℕ, _+_, _≤_};
 ghost use lib.Dec.{eqb};
 ghost use lib.ListN.{length, getD};
@@ -49,6 +50,16 @@ pub(crate) struct MemberLine {
     pub number: u64,
 }
 
+// All fields are written as they must be and their record is not refused: no field is.
+fn is_good(written: bool, own: u64) -> bool
+    ensures { λ r. ⌜ r ≡ (written && eqb own 0) ⌝ }
+{
+    if written {
+        return own == 0;
+    }
+    false
+}
+
 pub(crate) fn header_line(s: &[u8]) -> HeaderLine
     ensures { λ r. ⌜ HeaderLineOf (now (s .entry)) r ⌝ }
 {
@@ -68,8 +79,15 @@ pub(crate) fn header_line(s: &[u8]) -> HeaderLine
     let f = read_fields(s, 0, Tag::B);
     let vs = f.values;
     let h = header_of(vs);
+    let own = header_fault(h);
+    if is_good(f.written, own) {
+        return HeaderLine {
+            fault: 0,
+            header: h,
+        };
+    }
     HeaderLine {
-        fault: earlier(fields_fault(s, 0, Tag::B), header_fault(h)),
+        fault: earlier(fields_fault(s, 0, Tag::B), own),
         header: h,
     }
 }
@@ -98,8 +116,15 @@ fn storey_line(s: &[u8], at: usize, held: bool) -> StoreyLine
     let f = read_fields(s, at, Tag::S);
     let vs = f.values;
     let r = storey_of(vs);
+    let own = storey_fault(r);
+    if is_good(f.written, own) {
+        return StoreyLine {
+            fault: 0,
+            storey: r,
+        };
+    }
     StoreyLine {
-        fault: earlier(fields_fault(s, at, Tag::S), storey_fault(r)),
+        fault: earlier(fields_fault(s, at, Tag::S), own),
         storey: r,
     }
 }

@@ -1,4 +1,4 @@
-use Rattle.reading.proofs.LineChecks.{header-unshaped, header-shaped}
+use Rattle.reading.proofs.LineChecks.{header-unshaped, header-whole, header-shaped}
 use borrow.Author.Tests.{not-true, not-false}
 use mathlib.Core.Path.{sym, _∙_}
 use borrow.Author.Needs.{needs}
@@ -17,17 +17,27 @@ read-fields-requires c κs = search needs
 header-of-requires : tie.Need-header-of-requires
 header-of-requires c κs = search needs
 
-fields-fault-requires : tie.Need-fields-fault-requires
-fields-fault-requires c κs = search needs
-
 header-fault-requires : tie.Need-header-fault-requires
 header-fault-requires c κs = search needs
+
+is-good-requires : tie.Need-is-good-requires
+is-good-requires c κs = search needs
+
+returns-2 : tie.Need-returns-2
+returns-2 c =
+    header-whole _ (c .before .before .before .before .before .read-fields .result) (c .before .before .before .header-of .result) _ (sym (c .before .before .before .before .before .before .before .is-shaped .ensures) ∙ not-false _ (c .before .before .before .before .before .before .if1 .left)) (c .before .before .before .before .before .read-fields .ensures) (c .before .before .before .header-of .ensures)
+    (c .before .before .header-fault .ensures) (sym (c .before .is-good .ensures) ∙ c .if2 .taken)
+
+fields-fault-requires : tie.Need-fields-fault-requires
+fields-fault-requires c κs = search needs
 
 earlier-requires : tie.Need-earlier-requires
 earlier-requires c κs = search needs
 
-returns-2 : tie.Need-returns-2
-returns-2 c = header-shaped _ (c .before .before .before .before .before .read-fields .result) (c .before .before .before .header-of .result) _ _ _ (sym (c .before .before .before .before .before .before .before .is-shaped .ensures) ∙ not-false _ (c .before .before .before .before .before .before .if1 .left)) (c .before .before .before .before .before .read-fields .ensures) (c .before .before .before .header-of .ensures) (c .before .header-fault .ensures) (c .before .before .fields-fault .ensures) (c .earlier .ensures)
+returns-3 : tie.Need-returns-3
+returns-3 c =
+    header-shaped _ (c .before .before .before .before .before .before .before .read-fields .result) (c .before .before .before .before .before .header-of .result) _ _ _ (sym (c .before .before .before .before .before .before .before .before .before .is-shaped .ensures) ∙ not-false _ (c .before .before .before .before .before .before .before .before .if1 .left)) (c .before .before .before .before .before .before .before .read-fields .ensures) (c .before .before .before .before .before .header-of .ensures)
+    (c .before .before .before .before .header-fault .ensures) (c .before .fields-fault .ensures) (c .earlier .ensures)
 
 pub header-line-spec : {M : Type 1} → statement M
 header-line-spec =
@@ -37,7 +47,9 @@ header-line-spec =
     returns
     read-fields-requires
     header-of-requires
-    fields-fault-requires
     header-fault-requires
+    is-good-requires
+    returns-2
+    fields-fault-requires
     earlier-requires
-    returns-2)
+    returns-3)
