@@ -14,7 +14,8 @@ use Rattle.records.specs.Notation.{pick, everyBelow}
 use Rattle.records.specs.Records.{Allowed, between, either, allows, never, zeroForce, ranges, fields, inRange, headerValues, storeyValues, memberValues, headerFault, storeyFault, memberFault}
 use Rattle.format.specs.Spelling.{column, spelled}
 use Rattle.format.specs.Lines.{tagByte, lineEnd, shaped, isForce, fieldAt, valueAt, fieldFault, headerAt, storeyAt, memberAt}
-use Rattle.format.specs.Text.{Spellable, fieldText, fieldsText, lineText}
+use Rattle.format.specs.Text.{fieldText, fieldsText, lineText}
+use Rattle.format.specs.Steps.{Spellable}
 use Rattle.records.specs.declared.Header.{Header}
 use Rattle.records.specs.declared.Storey.{Storey}
 use Rattle.records.specs.declared.Member.{Member}

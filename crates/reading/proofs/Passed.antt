@@ -7,11 +7,11 @@ use mathlib.Core.List.{List, [], _∷_, _++_}
 use mathlib.Core.Logic.{⊎-elim}
 use mathlib.Core.Path.{_≡_, refl, ap, sym, _∙_}
 use lib.Dec.{eqb}
-use lib.ListN.{length, take, drop, getD, length-append, length-drop, List·getD-append}
+use lib.ListN.{length, take, drop, getD, length-drop, List·getD-append}
 use lib.Seq.{take-all, take-append-le, drop-append-le, drop-append-add}
 use borrow.Author.Tests.{eqb-true, eq-eqb}
 use Rattle.records.specs.Blank.{noStorey, noMember}
-use Rattle.records.specs.Notation.{pick, anyBelow, inOrder, first, total, listed}
+use Rattle.records.specs.Notation.{pick, inOrder, total, listed}
 use Rattle.records.specs.Records.{headerFault, storeyFault, memberFault, repeated}
 use Rattle.checks.specs.Rows.{storeyIn, memberIn, membersOf, countFault, countsFault, rowFault, memberRowsFault, storeyRowsFault, recordsFault}
 use Rattle.checks.specs.Rows as Rows

@@ -16,7 +16,7 @@ use Rattle.records.specs.declared.Member.{Member}
 use Rattle.records.specs.declared.Tag.{Tag}
 use Rattle.records.specs.declared.Tag.the-variants.{B, S, M}
 use Rattle.records.proofs.Firsts.{first-zero}
-use Rattle.checks.specs.Rows.{memberIn, storeyIn, membersOf, memberRowsFault, recordsFault}
+use Rattle.checks.specs.Rows.{memberIn, storeyIn, membersOf, recordsFault}
 use Rattle.checks.specs.Rows as Rows
 use Rattle.checks.proofs.Refusals.{None, one, rest}
 use Rattle.checks.proofs.RowLaws.{before-within, members-counted, storeys-counted, total-counted, header-good, rows, row-good, before-end}

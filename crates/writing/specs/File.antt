@@ -1,12 +1,8 @@
 -- A survey as a file (document 02, N1: "Write a loaded survey as a file in the house columns"; document 01, "The survey record").
-use Prim.Native.Nat.{ℕ}
-use mathlib.Core.List.{List, [], _∷_, _++_}
-use lib.ListN.{take, drop}
-use Rattle.records.specs.Records.{headerValues, storeyValues, memberValues}
-use Rattle.records.specs.declared.Header.{Header}
-use Rattle.records.specs.declared.Storey.{Storey}
-use Rattle.records.specs.declared.Member.{Member}
+use Rattle.records.specs.Notation.{ℕ, List, [], _∷_, _++_, take, drop}
 use Rattle.records.specs.declared.Tag.the-variants.{B, S, M}
+use Rattle.records.specs.Records.{headerValues, storeyValues, memberValues}
+use Rattle.checks.specs.Rows.{Header, Storey, Member}
 use Rattle.format.specs.Text.{lineText}
 
 -- the M lines of some members

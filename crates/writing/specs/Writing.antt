@@ -1,32 +1,24 @@
 -- The writing call (document 02, N1): any header with any rows of storeys and members, and a buffer of any length.
-use Prim.Native.Nat.{ℕ}
-use mathlib.Core.List.{List, [], _∷_, _++_}
-use lib.Dec.{leb, eqb}
-use lib.ListN.{length, drop}
-use Rattle.records.specs.Notation.{pick, inOrder}
-use Rattle.records.specs.declared.Header.{Header}
-use Rattle.records.specs.declared.Storey.{Storey}
-use Rattle.records.specs.declared.Member.{Member}
-use Rattle.checks.specs.Rows.{recordsFault}
-use Rattle.members.specs.Finding.{Returned, refused}
-use Rattle.writing.specs.declared.WriteAnswer.{WriteAnswer}
-use Rattle.writing.specs.declared.WriteAnswer.the-variants.{Written, Refused}
+use Rattle.records.specs.Notation.{ℕ, List, [], _∷_, _++_, leb, eqb, length, drop, pick, inOrder}
+use Rattle.checks.specs.Rows.{Header, Storey, Member, recordsFault}
+use Rattle.members.specs.Finding.{Returned, found, refused}
+use Rattle.writing.specs.declared.WriteAnswer.{WriteAnswer, the-variants.Written, the-variants.Refused}
 use Rattle.writing.specs.File.{fileText}
 
 -- "11, the file is longer than the lent buffer"
-abbrev pub lengthFault : ℕ → ℕ → ℕ
-lengthFault size room = pick (leb size room) 0 11
+abbrev pub fileLengthFault : ℕ → ℕ → ℕ
+fileLengthFault size room = pick (leb size room) 0 11
 
 -- the first refusal: "the checks that judging makes, with those same numbers first", and 11 "tested last"
 unfoldable pub fileFault : Header → List Storey → List Member → ℕ → ℕ
-fileFault h ss ms room = inOrder (recordsFault h ss ms ∷ lengthFault (length (fileText h ss ms)) room ∷ [])
+fileFault h ss ms room = inOrder (recordsFault h ss ms ∷ fileLengthFault (length (fileText h ss ms)) room ∷ [])
 
 unfoldable pub fileAnswer : Header → List Storey → List Member → ℕ → WriteAnswer
 fileAnswer h ss ms room = pick (eqb (fileFault h ss ms room) 0) (Written (length (fileText h ss ms))) (Refused (fileFault h ss ms room))
 
 -- what each case of the answer says: "give its length"
 abbrev pub returnedFile : WriteAnswer → Returned
-returnedFile (Written n) = record { refusal = 0; line = 0; values = n ∷ [] }
+returnedFile (Written n) = found (n ∷ [])
 returnedFile (Refused n) = refused n
 
 -- what the paper returns

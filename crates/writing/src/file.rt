@@ -11,8 +11,8 @@ use crate::lines::file_fault;
 use crate::lines::put_header;
 use crate::lines::put_member;
 use crate::lines::put_storey;
-use crate::lines::refused;
-use crate::lines::written;
+use crate::lines::refused_file;
+use crate::lines::written_file;
 use checks::records_fault;
 use records::Header;
 use records::Member;
@@ -71,9 +71,9 @@ pub fn write_file(h: Header, storeys: &[Storey], members: &[Member], out: &mut [
     let records = records_fault(h, storeys, members);
     let fault = file_fault(records, storeys.len(), members.len(), out.len());
     if fault != 0 {
-        return refused(fault);
+        return refused_file(fault);
     }
     let p = put_header(out, h);
     let end = put_storeys(out, p, storeys, members);
-    written(end)
+    written_file(end)
 }

@@ -1,4 +1,4 @@
-// One record's line, by value, put into the bytes from a place on. Each function gives the next place.
+// One record's line, by value, put into the bytes from a place on: each `put_` gives the next place. And the refusal and the answer of the call.
 ghost use mathlib.Core.Path.{_≡_};
 ghost use Prim.Native.Nat.{_+_, _*_, _≤_};
 ghost use lib.ListN.{length};
@@ -6,7 +6,7 @@ ghost use Rattle.records.specs.Records.{headerValues, storeyValues, memberValue
 ghost use Rattle.records.specs.declared.Tag.the-variants.{B, S, M};
 ghost use Rattle.format.specs.Text.{fieldText, fieldsText, lineText};
 ghost use Rattle.columns.specs.Bytes.{stamped};
-ghost use Rattle.writing.specs.Sizes.{Few, faultBy};
+ghost use Rattle.writing.specs.Sizes.{FewRows, fileFaultBy};
 use crate::WriteAnswer;
 use crate::Writing;
 use columns::line::put_field;
@@ -48,7 +48,7 @@ fn put_numbers(out: &mut [u8], at: usize, tag: Tag, values: &[u64]) -> usize
 }
 
 // A line: its tag, its fields, LF.
-fn put_line(out: &mut [u8], at: usize, tag: Tag, values: &[u64]) -> usize
+fn put_survey_line(out: &mut [u8], at: usize, tag: Tag, values: &[u64]) -> usize
     requires { ⌜ at + (2 + 8 * length (now values)) ≤ length (now out) ⌝ }
     ensures { λ r. ⌜ r ≡ at + (2 + 8 * length (now (values .entry))) ⌝ }
     ensures { λ _. ⌜ now (out .exit) ≡ stamped (now (out .entry)) at (lineText tag (now (values .entry))) ⌝ }
@@ -66,7 +66,7 @@ pub(crate) fn put_header(out: &mut [u8], h: Header) -> usize
     ensures { λ _. ⌜ now (out .exit) ≡ stamped (now (out .entry)) 0 (lineText B (headerValues h)) ⌝ }
 {
     let values = [h.knowledge, h.height, h.storeys, h.tilt1, h.tilt2, h.count];
-    put_line(out, 0, Tag::B, &values)
+    put_survey_line(out, 0, Tag::B, &values)
 }
 
 pub(crate) fn put_storey(out: &mut [u8], at: usize, s: Storey) -> usize
@@ -75,7 +75,7 @@ pub(crate) fn put_storey(out: &mut [u8], at: usize, s: Storey) -> usize
     ensures { λ _. ⌜ now (out .exit) ≡ stamped (now (out .entry)) at (lineText S (storeyValues s)) ⌝ }
 {
     let values = [s.number, s.shear, s.count];
-    put_line(out, at, Tag::S, &values)
+    put_survey_line(out, at, Tag::S, &values)
 }
 
 pub(crate) fn put_member(out: &mut [u8], at: usize, m: Member) -> usize
@@ -112,13 +112,13 @@ pub(crate) fn put_member(out: &mut [u8], at: usize, m: Member) -> usize
         c.rotation,
         c.drift,
     ];
-    put_line(out, at, Tag::M, &values)
+    put_survey_line(out, at, Tag::M, &values)
 }
 
 // The refusal of the records, then 11: the file is longer than the buffer.
 pub(crate) fn file_fault(fault: u64, storeys: usize, members: usize, room: usize) -> u64
-    requires { ⌜ Few fault storeys members ⌝ }
-    ensures { λ r. ⌜ r ≡ faultBy fault storeys members room ⌝ }
+    requires { ⌜ FewRows fault storeys members ⌝ }
+    ensures { λ r. ⌜ r ≡ fileFaultBy fault storeys members room ⌝ }
 {
     if fault != 0 {
         return fault;
@@ -129,7 +129,7 @@ pub(crate) fn file_fault(fault: u64, storeys: usize, members: usize, room: usize
     11
 }
 
-pub(crate) fn refused(number: u64) -> Writing
+pub(crate) fn refused_file(number: u64) -> Writing
     ensures { λ r. ⌜ r .answer ≡ WriteAnswer.Refused number ⌝ }
 {
     Writing {
@@ -137,7 +137,7 @@ pub(crate) fn refused(number: u64) -> Writing
     }
 }
 
-pub(crate) fn written(length: usize) -> Writing
+pub(crate) fn written_file(length: usize) -> Writing
     ensures { λ r. ⌜ r .answer ≡ WriteAnswer.Written length ⌝ }
 {
     Writing {

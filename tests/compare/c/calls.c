@@ -31,7 +31,8 @@ static void print(const char *word, const uint64_t *numbers, size_t count)
 static void print_constants(void)
 {
     const uint64_t version[] = {LLUNARETH_VERSION, llunareth_version()};
-    const uint64_t scales[] = {LLUNARETH_RATIO_SCALE, LLUNARETH_ROTATION_SCALE, LLUNARETH_FORCE_SCALE, LLUNARETH_ZERO_FORCE};
+    const uint64_t scales[] = {LLUNARETH_RATIO_SCALE, LLUNARETH_ROTATION_SCALE, LLUNARETH_FORCE_SCALE, LLUNARETH_ZERO_FORCE,
+                               LLUNARETH_WRITE_MOST};
     const uint64_t values[] = {
         LLUNARETH_SHORT,         LLUNARETH_READ_VALUES,     LLUNARETH_MEMBER_VALUES,
         LLUNARETH_STOREY_VALUES, LLUNARETH_BUILDING_VALUES, LLUNARETH_REPORT_VALUES,

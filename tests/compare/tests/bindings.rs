@@ -277,7 +277,8 @@ fn survey_lines(survey: &Survey) -> String {
 
 /// The constants of the header are those of the Rust package.
 fn constants_lines() -> String {
-    let scales = [llunareth::RATIO_SCALE, llunareth::ROTATION_SCALE, llunareth::FORCE_SCALE, llunareth::ZERO_FORCE];
+    let write_most = llunareth::WRITE_MOST as u64;
+    let scales = [llunareth::RATIO_SCALE, llunareth::ROTATION_SCALE, llunareth::FORCE_SCALE, llunareth::ZERO_FORCE, write_most];
     let values = [raw::READ_VALUES, raw::MEMBER_VALUES, raw::STOREY_VALUES, raw::BUILDING_VALUES, raw::REPORT_VALUES, raw::WRITE_VALUES];
     let values = values.map(|n| n as u64);
     line("version", &[raw::VERSION; 2]) + &line("scales", &scales) + &line("values", &[&[raw::SHORT], &values[..]].concat())

@@ -37,14 +37,14 @@ use Rattle.writing.proofs.file.put_storeys.Symbol as put-storeys-symbol
 use Rattle.writing.proofs.Says as Says
 use Rattle.writing.proofs.Says.{bytes}
 use Rattle.writing.proofs.Structs.{writing}
-use Rattle.writing.proofs.lines.refused.Met as refused-met
-use Rattle.writing.proofs.lines.refused.Symbol as refused-symbol
-use Rattle.writing.proofs.lines.refused.Kinds as refused-kinds
-use Rattle.writing.proofs.lines.refused.Reads as refused-reads
-use Rattle.writing.proofs.lines.written.Met as written-met
-use Rattle.writing.proofs.lines.written.Symbol as written-symbol
-use Rattle.writing.proofs.lines.written.Kinds as written-kinds
-use Rattle.writing.proofs.lines.written.Reads as written-reads
+use Rattle.writing.proofs.lines.refused_file.Met as refused-met
+use Rattle.writing.proofs.lines.refused_file.Symbol as refused-symbol
+use Rattle.writing.proofs.lines.refused_file.Kinds as refused-kinds
+use Rattle.writing.proofs.lines.refused_file.Reads as refused-reads
+use Rattle.writing.proofs.lines.written_file.Met as written-met
+use Rattle.writing.proofs.lines.written_file.Symbol as written-symbol
+use Rattle.writing.proofs.lines.written_file.Kinds as written-kinds
+use Rattle.writing.proofs.lines.written_file.Reads as written-reads
 use Rattle.writing.proofs.file.write_file.Code
 use Rattle.writing.proofs.file.write_file.Key
 use Rattle.writing.proofs.file.write_file.Statement.{statement}
@@ -187,6 +187,6 @@ write-file-spec {M} 𝓤 H 𝓜 𝓖 𝓡 = let w : World = record { M = M; 𝓤
       file-fault-reads.known w Code.env file-fault-symbol.name file-fault-symbol.routine Code.calls-writing·lines·file-fault (file-fault-met.met 𝓤 H 𝓜 𝓖 𝓡),
       put-header-reads.known w Code.env put-header-symbol.name put-header-symbol.routine Code.calls-writing·lines·put-header (put-header-met.met 𝓤 H 𝓜 𝓖 𝓡),
       knows Says.put-storeys w Code.env put-storeys-symbol.name put-storeys-symbol.routine Code.calls-writing·file·put-storeys (put-storeys-met.met 𝓤 H 𝓜 𝓖 𝓡),
-      refused-reads.known w Code.env refused-symbol.name refused-symbol.routine Code.calls-writing·lines·refused (refused-met.met 𝓤 H 𝓜 𝓖 𝓡),
-      written-reads.known w Code.env written-symbol.name written-symbol.routine Code.calls-writing·lines·written (written-met.met 𝓤 H 𝓜 𝓖 𝓡),
+      refused-reads.known w Code.env refused-symbol.name refused-symbol.routine Code.calls-writing·lines·refused-file (refused-met.met 𝓤 H 𝓜 𝓖 𝓡),
+      written-reads.known w Code.env written-symbol.name written-symbol.routine Code.calls-writing·lines·written-file (written-met.met 𝓤 H 𝓜 𝓖 𝓡),
     )

@@ -1,16 +1,15 @@
 use native.Mathlib.Omega.{arith}
 use mathlib.Core.Path.{_≡_, _∙_, ap}
-use mathlib.Core.List.{List}
 use Prim.Native.Nat.{ℕ, _+_}
-use lib.ListN.{length, set, length-set}
+use lib.ListN.{set, length-set}
 use Rattle.format.specs.Lines.{tagByte}
 use Rattle.format.specs.Text.{fieldsText}
 use Rattle.columns.specs.Bytes.{stamped}
 use Rattle.columns.proofs.Stamps.{kept-length}
 use Rattle.writing.proofs.Putting.{line-done}
 use borrow.Author.Needs.{needs}
-use Rattle.writing.proofs.lines.put_line.Statement.{statement}
-use Rattle.writing.proofs.lines.put_line.Tie as tie
+use Rattle.writing.proofs.lines.put_survey_line.Statement.{statement}
+use Rattle.writing.proofs.lines.put_survey_line.Tie as tie
 
 tag-byte-requires : tie.Need-tag-byte-requires
 tag-byte-requires c κs = search needs
@@ -50,8 +49,8 @@ returns c =
     let q : f .last .0 ≡ stamped (set (a .out .now) (a .at) (tagByte (a .tag))) (a .at + 1) (fieldsText (a .tag) 0 (a .values .now)) = f .ensures .1 ∙ ap (λ (x : ℕ). stamped (set (a .out .now) (a .at) x) (a .at + 1) (fieldsText (a .tag) 0 (a .values .now))) (t .ensures) in
     (omega (arith, f .ensures .0), line-done (a .tag) (a .out .now) (f .last .0) (a .values .now) (a .at) (f .result) q (f .ensures .0))
 
-pub put-line-spec : {M : Type 1} → statement M
-put-line-spec =
+pub put-survey-line-spec : {M : Type 1} → statement M
+put-survey-line-spec =
     tie.close
     (tie.spec
     tag-byte-requires
