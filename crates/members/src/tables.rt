@@ -1,6 +1,6 @@
 // The tables of limits (document 01, "Member"). A set is data: the places of its rows, and for m and for the rotation the limits that stand there.
 ghost use mathlib.Core.Path.{_≡_};
-ghost use Rattle.members.specs.Tables.{published};
+ghost use Rattle.members.specs.Tables.{places, moments, rotations, published};
 
 // A number at each of four rows.
 pub struct Four {
@@ -54,117 +54,146 @@ pub struct LimitSet {
     pub rotation: Table,
 }
 
+impl Places {
+    // Where the rows of the published set stand.
+    fn published() -> Self
+        ensures { λ r. ⌜ r ≡ places ⌝ }
+    {
+        PLACES
+    }
+}
+
+impl Table {
+    // The published limits of m.
+    fn moments() -> Self
+        ensures { λ r. ⌜ r ≡ moments ⌝ }
+    {
+        MOMENTS
+    }
+
+    // The published limits of the rotation.
+    fn rotations() -> Self
+        ensures { λ r. ⌜ r ≡ rotations ⌝ }
+    {
+        ROTATIONS
+    }
+}
+
 impl LimitSet {
     // The set that document 01 publishes.
     pub fn published() -> Self
         ensures { λ r. ⌜ r ≡ published ⌝ }
     {
-        PUBLISHED
+        LimitSet {
+            places: Places::published(),
+            m: Table::moments(),
+            rotation: Table::rotations(),
+        }
     }
 }
 
-const PUBLISHED: LimitSet = LimitSet {
-    places: Places {
-        axial: Four {
-            r1: 1_000,
-            r2: 6_000,
-            r3: 7_000,
-            r4: 10_000,
-        },
-        hoops: Two { r1: 500, r2: 6_000 },
-        walls: Two {
-            r1: 1_000,
-            r2: 2_500,
-        },
-        stress: Two {
-            r1: 9_000,
-            r2: 13_000,
-        },
+const PLACES: Places = Places {
+    axial: Four {
+        r1: 1_000,
+        r2: 6_000,
+        r3: 7_000,
+        r4: 10_000,
     },
-    m: Table {
-        a: Four {
-            r1: 60_000,
-            r2: 30_000,
-            r3: 10_000,
-            r4: 10_000,
-        },
-        b1: Four {
-            r1: 25_000,
-            r2: 12_500,
-            r3: 10_000,
-            r4: 10_000,
-        },
-        b2: Four {
-            r1: 60_000,
-            r2: 30_000,
-            r3: 10_000,
-            r4: 10_000,
-        },
-        c: Two {
-            r1: 10_000,
-            r2: 10_000,
-        },
-        zone1: Two {
-            r1: 70_000,
-            r2: 40_000,
-        },
-        zone2: Two {
-            r1: 40_000,
-            r2: 25_000,
-        },
-        plain1: Two {
-            r1: 45_000,
-            r2: 25_000,
-        },
-        plain2: Two {
-            r1: 25_000,
-            r2: 15_000,
-        },
-        wall: Two {
-            r1: 50_000,
-            r2: 25_000,
-        },
+    hoops: Two { r1: 500, r2: 6_000 },
+    walls: Two {
+        r1: 1_000,
+        r2: 2_500,
     },
-    rotation: Table {
-        a: Four {
-            r1: 40_000,
-            r2: 15_000,
-            r3: 5_000,
-            r4: 0,
-        },
-        b1: Four {
-            r1: 12_500,
-            r2: 5_000,
-            r3: 5_000,
-            r4: 0,
-        },
-        b2: Four {
-            r1: 35_000,
-            r2: 10_000,
-            r3: 5_000,
-            r4: 0,
-        },
-        c: Two { r1: 5_000, r2: 0 },
-        zone1: Two {
-            r1: 30_000,
-            r2: 15_000,
-        },
-        zone2: Two {
-            r1: 20_000,
-            r2: 10_000,
-        },
-        plain1: Two {
-            r1: 15_000,
-            r2: 7_500,
-        },
-        plain2: Two {
-            r1: 10_000,
-            r2: 5_000,
-        },
-        wall: Two {
-            r1: 20_000,
-            r2: 10_000,
-        },
+    stress: Two {
+        r1: 9_000,
+        r2: 13_000,
+    },
+};
+
+const MOMENTS: Table = Table {
+    a: Four {
+        r1: 60_000,
+        r2: 30_000,
+        r3: 10_000,
+        r4: 10_000,
+    },
+    b1: Four {
+        r1: 25_000,
+        r2: 12_500,
+        r3: 10_000,
+        r4: 10_000,
+    },
+    b2: Four {
+        r1: 60_000,
+        r2: 30_000,
+        r3: 10_000,
+        r4: 10_000,
+    },
+    c: Two {
+        r1: 10_000,
+        r2: 10_000,
+    },
+    zone1: Two {
+        r1: 70_000,
+        r2: 40_000,
+    },
+    zone2: Two {
+        r1: 40_000,
+        r2: 25_000,
+    },
+    plain1: Two {
+        r1: 45_000,
+        r2: 25_000,
+    },
+    plain2: Two {
+        r1: 25_000,
+        r2: 15_000,
+    },
+    wall: Two {
+        r1: 50_000,
+        r2: 25_000,
+    },
+};
+
+const ROTATIONS: Table = Table {
+    a: Four {
+        r1: 40_000,
+        r2: 15_000,
+        r3: 5_000,
+        r4: 0,
+    },
+    b1: Four {
+        r1: 12_500,
+        r2: 5_000,
+        r3: 5_000,
+        r4: 0,
+    },
+    b2: Four {
+        r1: 35_000,
+        r2: 10_000,
+        r3: 5_000,
+        r4: 0,
+    },
+    c: Two { r1: 5_000, r2: 0 },
+    zone1: Two {
+        r1: 30_000,
+        r2: 15_000,
+    },
+    zone2: Two {
+        r1: 20_000,
+        r2: 10_000,
+    },
+    plain1: Two {
+        r1: 15_000,
+        r2: 7_500,
+    },
+    plain2: Two {
+        r1: 10_000,
+        r2: 5_000,
+    },
+    wall: Two {
+        r1: 20_000,
+        r2: 10_000,
     },
 };
 

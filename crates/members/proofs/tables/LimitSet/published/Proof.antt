@@ -1,11 +1,18 @@
-use mathlib.Core.Path.{refl}
-use Rattle.members.specs.Tables.{places, moments, rotations}
+use borrow.Author.Needs.{needs}
 use Rattle.members.proofs.tables.LimitSet.published.Statement.{statement}
 use Rattle.members.proofs.tables.LimitSet.published.Tie as tie
 
+published-requires : tie.Need-published-requires
+published-requires c κs = search needs
+
+moments-requires : tie.Need-moments-requires
+moments-requires c κs = search needs
+
+rotations-requires : tie.Need-rotations-requires
+rotations-requires c κs = search needs
+
 returns : tie.Need-returns
-unfolding places moments rotations
-returns c = refl
+returns c = rw (← c .before .before .published .ensures, ← c .before .moments .ensures, ← c .rotations .ensures)
 
 pub published-spec : {M : Type 1} → statement M
-published-spec = tie.close (tie.spec returns)
+published-spec = tie.close (tie.spec published-requires moments-requires rotations-requires returns)
