@@ -25,9 +25,9 @@ extern "C" {
 
 /*
  * The form of the calls as this header has it. A program holds it against llunareth_version() once, before any other call: each change of a
- * call raises it.
+ * call, and each call that is added, raises it.
  */
-#define LLUNARETH_VERSION 2
+#define LLUNARETH_VERSION 3
 
 /* How many numbers a record has. */
 enum {
@@ -53,6 +53,9 @@ enum {
     LLUNARETH_MEMBER_ROWS = 320,
     LLUNARETH_SHEET_MOST = 28286
 };
+
+/* The longest file that llunareth_write writes: 10 storeys of 200 members. */
+enum { LLUNARETH_WRITE_MOST = 420310 };
 
 /* The S line. */
 struct llunareth_storey {
@@ -170,6 +173,12 @@ enum {
     LLUNARETH_REPORT_VALUES = 1  /* how many values there are */
 };
 
+/* Places of the values of llunareth_write. */
+enum {
+    LLUNARETH_WRITE_LENGTH = 0, /* of the file, bytes */
+    LLUNARETH_WRITE_VALUES = 1  /* how many values there are */
+};
+
 /* The form of the calls as the library has it: LLUNARETH_VERSION, or the library is not for this header. */
 uint64_t llunareth_version(void);
 
@@ -214,6 +223,15 @@ uint64_t llunareth_judge_building(const uint64_t *header, size_t header_len, con
 uint64_t llunareth_report(const uint64_t *header, size_t header_len, const struct llunareth_storey *storeys, size_t storeys_len,
                           const struct llunareth_member *members, size_t members_len, uint8_t *sheet, size_t sheet_len, uint64_t *out,
                           size_t out_len);
+
+/*
+ * Writes a survey, given as for its judgment, as a file from the front of the bytes `file`; those after it are left alone. It has 50 bytes,
+ * 26 for each storey and 210 for each member, at most 420,310, and no byte 0 is put after it. Read back into rows that hold it, it gives the same records. Refused as
+ * the judgment is, then by 11 where the file does not fit: all bytes are left alone.
+ */
+uint64_t llunareth_write(const uint64_t *header, size_t header_len, const struct llunareth_storey *storeys, size_t storeys_len,
+                         const struct llunareth_member *members, size_t members_len, uint8_t *file, size_t file_len, uint64_t *out,
+                         size_t out_len);
 
 /*
  * Puts what the program `determine` prints for a file from the front of the bytes `text` and returns its length; the bytes after it are

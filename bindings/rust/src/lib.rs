@@ -1,5 +1,5 @@
 //! The proved calls of Llunareth for programs in Rust: read a survey file, check a record, judge a member, a storey and a building, write the
-//! report. docs/CALLS.md has the calls and their refusals, docs/FORMAT.md the survey file and its fields.
+//! report, write a survey as a file. docs/CALLS.md has the calls and their refusals, docs/FORMAT.md the survey file and its fields.
 //!
 //! No call relies on checks made before it: every file and record, good or bad, yields an answer or a refusal. Every call panics where the
 //! linked library has another form of the calls than this package knows ([`raw::VERSION`]).
@@ -8,7 +8,7 @@ pub mod raw;
 mod records;
 
 pub use findings::{BuildingFinding, MemberFinding, Refusal, StoreyFinding};
-pub use records::{Header, LoadCase, Member, Storey, Survey, FORCE_SCALE, RATIO_SCALE, ROTATION_SCALE, ZERO_FORCE};
+pub use records::{Header, LoadCase, Member, Storey, Survey, FORCE_SCALE, RATIO_SCALE, ROTATION_SCALE, WRITE_MOST, ZERO_FORCE};
 
 /// The values that a call puts out.
 fn values<const N: usize>(call: impl FnOnce(&mut [u64]) -> u64) -> Result<[u64; N], Refusal> {
@@ -163,6 +163,25 @@ pub fn judge_building(header: &Header, storeys: &[Storey], members: &[Member]) -
 pub fn report<'a>(header: &Header, storeys: &[Storey], members: &[Member], sheet: &'a mut [u8]) -> Result<&'a [u8], Refusal> {
     let [length] = values::<{ raw::REPORT_VALUES }>(|out| raw::report(&<[u64; 6]>::from(*header), storeys, members, sheet, out))?;
     Ok(front(sheet, length))
+}
+
+/// Writes a survey, given as for its judgment, as a file to the front of the bytes; those after it are left alone. It has 50 bytes, 26 for each
+/// storey and 210 for each member, at most [`WRITE_MOST`]. Read back into rows that hold it, it gives the same records. Refused as the judgment is, then by 11 where the file does not fit:
+/// all bytes are left alone.
+///
+/// ```
+/// let file = std::fs::read("../../samples/worked-example.survey")?;
+/// # let (mut storeys, mut members) = ([llunareth::Storey::default(); 10], [llunareth::Member::default(); 320]);
+/// let survey = llunareth::read(&file, &mut storeys, &mut members)?;
+/// let mut bytes = [0; 1_000];
+/// assert_eq!(llunareth::write(&survey.header, survey.storeys, survey.members, &mut bytes)?, file);
+/// let refusal = llunareth::write(&survey.header, survey.storeys, survey.members, &mut bytes[..file.len() - 1]).unwrap_err();
+/// assert_eq!(refusal.number, 11);
+/// # Ok::<(), Box<dyn std::error::Error>>(())
+/// ```
+pub fn write<'a>(header: &Header, storeys: &[Storey], members: &[Member], file: &'a mut [u8]) -> Result<&'a [u8], Refusal> {
+    let [length] = values::<{ raw::WRITE_VALUES }>(|out| raw::write(&<[u64; 6]>::from(*header), storeys, members, file, out))?;
+    Ok(front(file, length))
 }
 
 /// What the program `determine` prints for a file, put to the front of the bytes; those after it are left alone. There is no refusal: the

@@ -10,7 +10,7 @@ use crate::{Member, Storey};
 use std::sync::OnceLock;
 
 /// The form of the calls that this package knows.
-pub const VERSION: u64 = 2;
+pub const VERSION: u64 = 3;
 
 /// Returned where `out` is too short for a call's values; no refusal has this number.
 pub const SHORT: u64 = 255;
@@ -32,6 +32,9 @@ pub const BUILDING_VALUES: usize = 3;
 
 /// How many values [`report`] puts out.
 pub const REPORT_VALUES: usize = 1;
+
+/// How many values [`write`] puts out.
+pub const WRITE_VALUES: usize = 1;
 
 extern "C" {
     fn llunareth_version() -> u64;
@@ -77,6 +80,18 @@ extern "C" {
         members_len: usize,
         sheet: *mut u8,
         sheet_len: usize,
+        out: *mut u64,
+        out_len: usize,
+    ) -> u64;
+    fn llunareth_write(
+        header: *const u64,
+        header_len: usize,
+        storeys: *const Storey,
+        storeys_len: usize,
+        members: *const Member,
+        members_len: usize,
+        file: *mut u8,
+        file_len: usize,
         out: *mut u64,
         out_len: usize,
     ) -> u64;
@@ -186,6 +201,25 @@ pub fn report(header: &[u64], storeys: &[Storey], members: &[Member], sheet: &mu
     }
 }
 
+/// Writes a survey as a file to the front of `file`. Values: the file's length.
+pub fn write(header: &[u64], storeys: &[Storey], members: &[Member], file: &mut [u8], out: &mut [u64]) -> u64 {
+    expect_version();
+    unsafe {
+        llunareth_write(
+            header.as_ptr(),
+            header.len(),
+            storeys.as_ptr(),
+            storeys.len(),
+            members.as_ptr(),
+            members.len(),
+            file.as_mut_ptr(),
+            file.len(),
+            out.as_mut_ptr(),
+            out.len(),
+        )
+    }
+}
+
 /// Puts what `determine` prints for a file to the front of `text`; how many bytes, 0 where it does not fit. It has no refusal: the text is the
 /// answer.
 pub fn determine(file: &[u8], text: &mut [u8]) -> usize {
@@ -203,8 +237,8 @@ mod tests {
     }
 
     #[test]
-    #[should_panic(expected = "the linked library has version 3 of the calls, this package version 2")]
+    #[should_panic(expected = "the linked library has version 4 of the calls, this package version 3")]
     fn another_version() {
-        expect(3);
+        expect(4);
     }
 }

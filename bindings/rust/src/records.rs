@@ -12,6 +12,9 @@ pub const ROTATION_SCALE: u64 = 1_000_000;
 /// A force (N_D and N_K less [`ZERO_FORCE`]) divided by this is in kN, a moment in kNm.
 pub const FORCE_SCALE: u64 = 10;
 
+/// The bytes of the longest file that [`write`](crate::write) writes: 10 storeys of 200 members.
+pub const WRITE_MOST: usize = 420_310;
+
 /// The B line.
 #[repr(C)]
 #[derive(Clone, Copy, Debug, Default, PartialEq, Eq, Hash)]

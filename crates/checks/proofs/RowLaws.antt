@@ -1,15 +1,16 @@
 -- The members of a storey among the rows.
-use Prim.Native.Nat.{ℕ, zero, suc, _+_, _≤_, _<_}
+use Prim.Native.Nat.{ℕ, zero, suc, _+_, _*_, _≤_, _<_}
 use native.Mathlib.Omega.{arith}
 use mathlib.Core.List.{List, [], _∷_}
-use mathlib.Core.Path.{_≡_, refl}
+use mathlib.Core.Path.{_≡_, refl, _∙_}
 use lib.ListN.{length, drop, length-take, length-drop}
 use Rattle.records.specs.declared.Storey.{Storey}
 use Rattle.records.specs.declared.Member.{Member}
 use Rattle.records.specs.Notation.{total, first}
-use Rattle.checks.specs.Rows.{storeyIn, membersBefore, membersOf, countFault, countsFault, storeyRowsFault, memberRowsFault, recordsFault}
-use Rattle.records.specs.Records.{headerFault, storeyFault, repeated}
+use Rattle.checks.specs.Rows.{memberIn, rowFault, storeyIn, membersBefore, membersOf, countFault, countsFault, storeyRowsFault, memberRowsFault, recordsFault}
+use Rattle.records.specs.Records.{headerFault, storeyFault, memberFault, repeated}
 use Rattle.records.specs.declared.Header.{Header}
+use Rattle.records.proofs.Validity.{count-most, ten-storeys}
 use Rattle.checks.proofs.Refusals.{None, one, rest, in-order-clear, first-clear, count-clear}
 
 -- the members of a storey lie within the rows
@@ -40,6 +41,11 @@ members-counted ss ms i e =
     let b = membersBefore ss i in
     omega (arith, e, length-take (storeyIn ss i .count) (drop b ms), length-drop b ms, before-within ss (suc i))
 
+-- ---- a storey's members without a refusal
+pub row-good : (rows : List Member) → memberRowsFault rows ≡ 0 → (j : ℕ) → j < length rows → None (memberFault (memberIn rows j) ∷ repeated (λ e. memberIn rows e .number) j ∷ [])
+unfolding memberRowsFault rowFault
+row-good rows e j l = in-order-clear _ (first-clear (rowFault rows) (length rows) e j l)
+
 -- ---- records without a refusal
 module _ (h : Header) (ss : List Storey) (ms : List Member) (none : recordsFault h ss ms ≡ 0) where
   checks : None (countsFault h ss ms ∷ headerFault h ∷ first 0 (λ n. n) (storeyRowsFault ss ms) (length ss) ∷ [])
@@ -65,3 +71,18 @@ module _ (h : Header) (ss : List Storey) (ms : List Member) (none : recordsFault
   pub rows : (i : ℕ) → i < length ss → None (storeyFault (storeyIn ss i) ∷ repeated (λ j. storeyIn ss j .number) i ∷ memberRowsFault (membersOf ss ms i) ∷ [])
   unfolding storeyRowsFault
   rows i l = in-order-clear _ (first-clear (storeyRowsFault ss ms) (length ss) rows-good i l)
+
+  -- ---- how many there are
+  pub storeys-most : length ss ≤ 10
+  storeys-most = omega (arith, storeys-counted, ten-storeys h header-good)
+
+  pub before-end : membersBefore ss (length ss) ≡ length ms
+  before-end = before-all ss ∙ total-counted
+
+  before-most : (i : ℕ) → i ≤ length ss → membersBefore ss i ≤ 200 * i
+  unfolding membersBefore
+  before-most zero l = omega arith
+  before-most (suc i) l = omega (arith, before-most i (omega arith), count-most (storeyIn ss i) (one (rows i (omega arith))))
+
+  pub members-most : length ms ≤ 2_000
+  members-most = omega (arith, before-end, before-most (length ss) (omega arith), storeys-most)

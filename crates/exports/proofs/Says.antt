@@ -17,8 +17,9 @@ use Rattle.records.proofs.Structs.{member, storey}
 use Rattle.records.specs.Records.{headerBy, storeyBy}
 use Rattle.storeys.specs.Storey.{storeyReturned}
 use Rattle.report.specs.Sheet.{reportReturned, bufferAfter}
+use Rattle.writing.specs.Writing.{fileReturned, fileAfter}
 use Rattle.words.specs.Words.{handed}
-use Rattle.exports.specs.Calls.{readingCount, storeyCount, reportCount, ifRoom, given, outAfter, readingReturned, BuildingGiven}
+use Rattle.exports.specs.Calls.{readingCount, storeyCount, reportCount, fileCount, ifRoom, given, outAfter, readingReturned, BuildingGiven}
 
 abbrev pub bytes : RattleType
 bytes = rtF (fInt w8)
@@ -60,5 +61,15 @@ llunareth-report = record {
       (z ≡ given reportCount (reportReturned (headerBy (handed (a .0 .now))) (a .1 .0 .now) (a .1 .1 .0 .now) (length (a .1 .1 .1 .0 .now))) (a .1 .1 .1 .1 .0 .now))
       ∷ (e .1 .1 .1 .1 .0 .now ≡ outAfter reportCount (reportReturned (headerBy (handed (a .0 .now))) (a .1 .0 .now) (a .1 .1 .0 .now) (length (a .1 .1 .1 .0 .now))) (a .1 .1 .1 .1 .0 .now))
       ∷ (e .1 .1 .1 .0 .now ≡ ifRoom reportCount (a .1 .1 .1 .1 .0 .now) (bufferAfter (headerBy (handed (a .0 .now))) (a .1 .0 .now) (a .1 .1 .0 .now) (a .1 .1 .1 .0 .now)) (a .1 .1 .1 .0 .now))
+      ∷ [];
+}
+
+abbrev pub llunareth-write : Plain {n = 5} (pShrS words 0 tt ∷ pShrS (R storey) 1 tt ∷ pShrS (R member) 2 tt ∷ pMutS bytes 3 tt ∷ pMutS words 4 tt ∷ []) (rNum w64)
+llunareth-write = record {
+  requires = λ κs a. [];
+  ensures = λ κs a z e.
+      (z ≡ given fileCount (fileReturned (headerBy (handed (a .0 .now))) (a .1 .0 .now) (a .1 .1 .0 .now) (length (a .1 .1 .1 .0 .now))) (a .1 .1 .1 .1 .0 .now))
+      ∷ (e .1 .1 .1 .1 .0 .now ≡ outAfter fileCount (fileReturned (headerBy (handed (a .0 .now))) (a .1 .0 .now) (a .1 .1 .0 .now) (length (a .1 .1 .1 .0 .now))) (a .1 .1 .1 .1 .0 .now))
+      ∷ (e .1 .1 .1 .0 .now ≡ ifRoom fileCount (a .1 .1 .1 .1 .0 .now) (fileAfter (headerBy (handed (a .0 .now))) (a .1 .0 .now) (a .1 .1 .0 .now) (a .1 .1 .1 .0 .now)) (a .1 .1 .1 .0 .now))
       ∷ [];
 }

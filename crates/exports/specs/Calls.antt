@@ -18,7 +18,7 @@ use Rattle.storeys.specs.Building.{Answers, returnedBuilding}
 
 -- the form of the calls: a change of one raises it
 abbrev pub version : ℕ
-version = 2
+version = 3
 
 -- how many values each call puts to the front of `out`
 abbrev pub readingCount : ℕ
@@ -35,6 +35,9 @@ buildingCount = 3
 
 abbrev pub reportCount : ℕ
 reportCount = 1
+
+abbrev pub fileCount : ℕ
+fileCount = 1
 
 -- given where `out` is too short for the values; no refusal is packed as this
 abbrev pub short : ℕ

@@ -4,6 +4,7 @@ pub mod reading_call;
 pub mod record_checks;
 pub mod report_calls;
 pub mod version;
+pub mod writing_call;
 
 // Given where `out` is too short for a call's values; no refusal is packed as this.
 pub(crate) const SHORT: u64 = 255;

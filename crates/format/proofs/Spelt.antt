@@ -13,7 +13,8 @@ use borrow.Author.Tests.{eqb-true, leb-true, leb-false, ltb-true, ltb-false, lt-
 use Rattle.records.specs.Notation.{pick}
 use Rattle.records.specs.Records.{zeroForce}
 use Rattle.format.specs.Spelling.{column, spelled, same, pushed, value, written, minusOf, fieldOf}
-use Rattle.format.specs.Text.{Spellable, fieldText}
+use Rattle.format.specs.Text.{fieldText}
+use Rattle.format.specs.Steps.{Spellable}
 use Rattle.records.proofs.Below.{and-left, and-right}
 use Rattle.format.proofs.Columns.{same-eq, blank-digits}
 use Rattle.format.proofs.Written.{minus-small}

@@ -14,7 +14,8 @@ use Rattle.records.specs.Notation.{pick, everyBelow}
 use Rattle.records.specs.Records.{Allowed, between, either, allows, never, zeroForce, ranges, fields, inRange, headerValues, storeyValues, memberValues, headerFault, storeyFault, memberFault}
 use Rattle.format.specs.Spelling.{column, spelled}
 use Rattle.format.specs.Lines.{tagByte, lineEnd, shaped, isForce, fieldAt, valueAt, fieldFault, headerAt, storeyAt, memberAt}
-use Rattle.format.specs.Text.{Spellable, fieldText, fieldsText, lineText}
+use Rattle.format.specs.Text.{fieldText, fieldsText, lineText}
+use Rattle.format.specs.Steps.{Spellable}
 use Rattle.records.specs.declared.Header.{Header}
 use Rattle.records.specs.declared.Storey.{Storey}
 use Rattle.records.specs.declared.Member.{Member}
@@ -75,12 +76,12 @@ length-either : (t : Bool) (m n : ℕ) → length (pick t (spelled 8 32 m) (spel
 length-either true m n = length-spelled 8 32 m
 length-either false m n = length-spelled 8 45 n
 
-length-field : (force : Bool) (v : ℕ) → length (fieldText force v) ≡ 8
+pub length-field : (force : Bool) (v : ℕ) → length (fieldText force v) ≡ 8
 unfolding fieldText
 length-field false v = length-spelled 8 32 v
 length-field true v = length-either (leb zeroForce v) (v - zeroForce) (zeroForce - v)
 
-length-fields : (tag : Tag) (j : ℕ) (vs : List ℕ) → length (fieldsText tag j vs) ≡ 8 * length vs
+pub length-fields : (tag : Tag) (j : ℕ) (vs : List ℕ) → length (fieldsText tag j vs) ≡ 8 * length vs
 unfolding fieldsText
 length-fields tag j [] = refl
 length-fields tag j (v ∷ vs) =

@@ -1,7 +1,7 @@
 -- What the steps of reading a line's fields come to: each case of a cursor's answer, and the fields of a line that the bytes hold.
-use Rattle.records.specs.Notation.{ℕ, _<_, Bool, not, _&&_, _||_, List, Option, some, none, _≡_, leb, ltb, eqb, getD, pick, everyBelow}
+use Rattle.records.specs.Notation.{ℕ, _+_, _-_, _≤_, _<_, Bool, true, false, not, _&&_, _||_, List, Option, some, none, _≡_, leb, ltb, eqb, getD, pick, everyBelow}
 use Rattle.records.specs.declared.Tag.{Tag}
-use Rattle.records.specs.Records.{Allowed, allows, fields}
+use Rattle.records.specs.Records.{Allowed, allows, zeroForce, fields}
 use Rattle.format.specs.Lines.{fieldAt, isWritten, valueAt}
 use Rattle.format.specs.declared.cursor.Cursor.{Cursor}
 use Rattle.format.specs.declared.cursor.Field.{Field}
@@ -34,3 +34,8 @@ faultOf (Refused n c) a = n
 pub record FieldsHeld (tag : Tag) (s : List ℕ) (at : ℕ) (r : Fields) : Type 0 where
   pub written : r .written ≡ everyBelow (λ j. isWritten (fieldAt tag s at j)) (fields tag)
   pub values : (j : ℕ) → j < fields tag → getD (r .values) j 0 ≡ valueAt tag s at j
+
+-- the numbers that have a spelling in a field: of a force, with six digits at most after a minus; else with seven digits at most
+abbrev pub Spellable : Bool → ℕ → Type 0
+Spellable false v = v ≤ 9_999_999
+Spellable true v = (zeroForce - 999_999 ≤ v) × (v ≤ zeroForce + 9_999_999)

@@ -1,18 +1,8 @@
 -- A line as it is written (document 01, "The survey record"): the columns of a stored number, and the line of some numbers.
-use Prim.Native.Nat.{ℕ, suc, _+_, _-_, _≤_}
-use mathlib.Core.Bool.{Bool, true, false}
-use mathlib.Core.List.{List, [], _∷_, _++_}
-use lib.Dec.{leb}
-use Rattle.records.specs.Notation.{pick}
-use Rattle.records.specs.Records.{zeroForce}
+use Rattle.records.specs.Notation.{ℕ, suc, _-_, Bool, true, false, List, [], _∷_, _++_, leb, pick}
+use Rattle.records.specs.{declared.Tag.Tag, Records.zeroForce}
 use Rattle.format.specs.Spelling.{spelled}
 use Rattle.format.specs.Lines.{tagByte, isForce}
-use Rattle.records.specs.declared.Tag.{Tag}
-
--- the numbers that have a spelling in a field: of a force, with six digits at most after a minus; else with seven digits at most
-abbrev pub Spellable : Bool → ℕ → Type 0
-Spellable false v = v ≤ 9_999_999
-Spellable true v = (zeroForce - 999_999 ≤ v) × (v ≤ zeroForce + 9_999_999)
 
 -- the eight columns of a stored number. N_D and N_K are stored counted from zeroForce
 unfoldable pub fieldText : Bool → ℕ → List ℕ

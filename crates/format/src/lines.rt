@@ -20,7 +20,7 @@ use records::Tag;
 use records::ranges::field_count;
 use records::ranges::range_allows;
 
-fn tag_byte(tag: Tag) -> u8
+pub fn tag_byte(tag: Tag) -> u8
     ensures { λ r. ⌜ r ≡ tagByte tag ⌝ }
 {
     match tag {
@@ -79,7 +79,7 @@ pub fn is_framed(s: &[u8], at: usize, tag: Tag) -> bool
     s[at + last] == b'\n'
 }
 
-fn is_force(tag: Tag, j: usize) -> bool
+pub fn is_force(tag: Tag, j: usize) -> bool
     ensures { λ r. ⌜ r ≡ isForce tag j ⌝ }
 {
     match tag {

@@ -5,8 +5,6 @@ pub mod Numbers
 pub mod Placed
 pub mod Filling
 pub mod Accepted
-pub mod Resent
-pub mod Reread
 pub mod Says
 pub mod Structs
 pub mod Numbered

@@ -7,11 +7,11 @@ use mathlib.Core.List.{List, [], _∷_, _++_}
 use mathlib.Core.Logic.{⊎-elim}
 use mathlib.Core.Path.{_≡_, refl, ap, sym, _∙_}
 use lib.Dec.{eqb}
-use lib.ListN.{length, take, drop, getD, length-append, length-drop, List·getD-append}
+use lib.ListN.{length, take, drop, getD, length-drop, List·getD-append}
 use lib.Seq.{take-all, take-append-le, drop-append-le, drop-append-add}
 use borrow.Author.Tests.{eqb-true, eq-eqb}
 use Rattle.records.specs.Blank.{noStorey, noMember}
-use Rattle.records.specs.Notation.{pick, anyBelow, inOrder, first, total, listed}
+use Rattle.records.specs.Notation.{pick, inOrder, total, listed}
 use Rattle.records.specs.Records.{headerFault, storeyFault, memberFault, repeated}
 use Rattle.checks.specs.Rows.{storeyIn, memberIn, membersOf, countFault, countsFault, rowFault, memberRowsFault, storeyRowsFault, recordsFault}
 use Rattle.checks.specs.Rows as Rows
@@ -22,11 +22,11 @@ use Rattle.records.specs.declared.Tag.the-variants.{B, S, M}
 use Rattle.records.proofs.Firsts.{first-zero}
 use Rattle.checks.proofs.Refusals.{None, end, also, one, rest, in-order-clear, in-order-none}
 use Rattle.format.specs.Lines.{fieldsFault, headerAt}
-use Rattle.reading.specs.Survey.{lineStart, membersBefore, storey, memberStart, member, shape, unheld, headerLineFault, storeyLineFault, memberLineFault, surveyFault, firstMembers, survey}
+use Rattle.reading.specs.Survey.{lineStart, membersBefore, storey, memberStart, member, shape, unheld, headerLineFault, storeyLineFault, memberLineFault, surveyFault, firstMembers, accepted, refused, survey}
 use Rattle.reading.specs.Passed.{AcceptedPass}
 use Rattle.reading.proofs.Accepted.{header-line, storey-line, member-line}
 use Rattle.reading.proofs.Numbers.{length-listed, length-members}
-use Rattle.reading.proofs.Resent.{of-accepted, total-all}
+use Rattle.reading.proofs.Storeys.{any-same}
 
 -- ---- lists by their elements
 at-end : {A : Type 0} (xs : List A) (x d : A) → getD (xs ++ (x ∷ [])) (length xs) d ≡ x
@@ -41,15 +41,21 @@ listed-at f d (suc n) j h =
     (λ (l : j < n). List·getD-append (listed f n) (f n ∷ []) d j (omega (arith, length-listed f n)) ∙ listed-at f d n j l) (eq-or-lt-of-le (le-of-suc-le-suc h))
 
 -- a number is not repeated where those before it and its own are the same
-any-same : (p q : ℕ → Bool) (n : ℕ) → ((e : ℕ) → e < n → p e ≡ q e) → anyBelow p n ≡ anyBelow q n
-unfolding anyBelow
-any-same p q zero h = refl
-any-same p q (suc n) h = rw (any-same p q n (λ e l. h e (omega arith)), h n (omega arith))
-
-repeated-same : (f g : ℕ → ℕ) (k : ℕ) → ((e : ℕ) → e ≤ k → f e ≡ g e) → repeated f k ≡ repeated g k
+pub repeated-same : (f g : ℕ → ℕ) (k : ℕ) → ((e : ℕ) → e ≤ k → f e ≡ g e) → repeated f k ≡ repeated g k
 repeated-same f g k h =
     ap (λ (t : Bool). pick t 5 0)
     (any-same (λ e. eqb (f e) (f k)) (λ e. eqb (g e) (g k)) k (λ e l. rw (h e (omega arith), h k (omega arith))))
+
+-- ---- how many members the storeys count
+pub total-more : (ss : List Storey) (st : Storey) → total (λ (t : Storey). t .count) (ss ++ (st ∷ [])) ≡ total (λ (t : Storey). t .count) ss + st .count
+unfolding total
+total-more [] st = omega arith
+total-more (x ∷ ss) st = omega (arith, total-more ss st)
+
+pub total-all : (s : List ℕ) (i : ℕ) → total (λ (t : Storey). t .count) (listed (storey s) i) ≡ membersBefore s i
+unfolding listed membersBefore total
+total-all s zero = refl
+total-all s (suc i) = total-more (listed (storey s) i) (storey s i) ∙ rw (total-all s i)
 
 -- ---- the members of a storey among all
 module _ (s : List ℕ) where
@@ -152,13 +158,18 @@ module _ (s : List ℕ) (srows mrows : ℕ) (z : surveyFault s srows mrows .numb
   counts-none =
       in-order-none
       (also (count-none n (length ss) (sym (length-listed (storey s) n)))
-      (also (count-none (total (λ t. t .count) ss) (length ms) (total-all s srows mrows z n ∙ sym (length-members s n))) end))
+      (also (count-none (total (λ t. t .count) ss) (length ms) (total-all s n ∙ sym (length-members s n))) end))
 
   pub records-pass : recordsFault (headerAt s 0) ss ms ≡ 0
   unfolding recordsFault
   records-pass =
       in-order-none
       (also counts-none (also header-good (also (first-zero 0 (λ r. r) (storeyRowsFault ss ms) (length ss) refl (λ i l. storey-none i (omega (arith, length-listed (storey s) n)))) end)))
+
+-- ---- an accepted file has no refusal, and its records are those that stand in its lines
+pub of-accepted : (t : Bool) (h k : Header) (ss us : List Storey) (ms ns : List Member) (r l : ℕ) → pick t (accepted h ss ms) (refused r l) ≡ accepted k us ns → (t ≡ true) × (h ≡ k) × (ss ≡ us) × (ms ≡ ns)
+of-accepted true h k ss us ms ns r l e = (refl, cc, cc, cc)
+of-accepted false h k ss us ms ns r l e = let z : _≡_ {A = ℕ} 0 1 = cc in absurd (omega arith)
 
 pub accepted-pass : AcceptedPass
 unfolding survey

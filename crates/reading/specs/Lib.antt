@@ -2,5 +2,4 @@ pub mod Survey
 pub mod Filling
 pub mod Checks
 pub mod Answer
-pub mod Writing
 pub mod Passed

@@ -27,7 +27,8 @@ use Rattle.report.specs.Sheet.{buildingLine, storeyLines, storeysLines, 
 use Rattle.report.specs.Printing.{lineOf, sizeOf, Few, faultBy}
 use Rattle.columns.proofs.Stamps.{stamped-both, stamped-front}
 use Rattle.report.proofs.Rows.{length-building-line, length-storey-lines}
-use Rattle.report.proofs.Survey.{storeys-most, members-most, before-end, part-length}
+use Rattle.checks.proofs.RowLaws.{storeys-most, members-most, before-end}
+use Rattle.report.proofs.Survey.{part-length}
 use Rattle.checks.proofs.RowLoops.{none-before}
 
 -- ---- the sheet's length: 86 bytes for each member, 74 for each storey, 26 for the building

@@ -12,16 +12,16 @@ use Rattle.records.specs.Notation.{pick}
 use Rattle.records.specs.Records.{memberFault, storeyFault}
 use Rattle.records.specs.declared.Storey.{Storey}
 use Rattle.records.specs.declared.Member.{Member}
-use Rattle.records.proofs.Firsts.{pick-clear}
 use Rattle.members.specs.Finding.{finding, knowledge}
 use Rattle.members.specs.declared.finding.Finding.{Finding}
 use Rattle.storeys.specs.declared.StoreyFinding.{StoreyFinding}
 use Rattle.storeys.specs.declared.StoreyAnswer.{StoreyAnswer}
 use Rattle.storeys.specs.Storey.{publishedRules, meetsWallShare, storeyFinding, knowledgeFault, storeyCallFault, storeyAnswerBy, returnedStorey, storeyReturned}
-use Rattle.checks.specs.Rows.{countFault, memberIn, rowFault, memberRowsFault}
+use Rattle.checks.specs.Rows.{countFault, memberIn, memberRowsFault}
 use Rattle.records.specs.Blank.{noMember}
 use Rattle.storeys.proofs.Returned.{storey-answer-is}
-use Rattle.checks.proofs.Refusals.{None, one, rest, in-order-clear, first-clear}
+use Rattle.checks.proofs.Refusals.{None, one, rest, in-order-clear}
+use Rattle.checks.proofs.RowLaws.{row-good}
 use Rattle.columns.specs.Bytes.{stamped}
 use Rattle.report.specs.Sheet.{memberLine, storeyLine, buildingLine, memberLines, storeyLines}
 use Rattle.report.specs.Printing.{findingIn}
@@ -56,8 +56,7 @@ length-storey-lines k s ms =
 -- ---- the members of a storey
 module _ (k : ℕ) (met : Bool) (rows : List Member) where
   pub member-good : memberRowsFault rows ≡ 0 → (j : ℕ) → j < length rows → memberFault (memberIn rows j) ≡ 0
-  unfolding memberRowsFault rowFault
-  member-good e j l = pick-clear (memberFault (memberIn rows j)) _ (first-clear (rowFault rows) (length rows) e j l)
+  member-good e j l = one (row-good rows e j l)
 
   pub members-next : (out before turned : List ℕ) (p next j : ℕ) → stamped out p (memberLines k met (drop j rows)) ≡ before → j < length rows → turned ≡ stamped out p (memberLine (memberIn rows j .number) (finding k met (memberIn rows j))) → next ≡ p + 86 → stamped turned next (memberLines k met (drop (j + 1) rows)) ≡ before
   unfolding memberLines

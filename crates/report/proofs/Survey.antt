@@ -1,5 +1,5 @@
 -- What a survey holds that the call on a building accepts: every storey's rows, its refusals, and how many there are.
-use Prim.Native.Nat.{ℕ, zero, suc, _+_, _*_, _-_, _≤_, _<_}
+use Prim.Native.Nat.{ℕ, suc, _+_, _*_, _-_, _≤_, _<_}
 use native.Mathlib.Omega.{arith}
 use native.Mathlib.Numerals.{add-one}
 use mathlib.Core.List.{List}
@@ -9,12 +9,11 @@ use borrow.Author.Tests.{eq-eqb}
 use Rattle.records.specs.declared.Header.{Header}
 use Rattle.records.specs.declared.Storey.{Storey}
 use Rattle.records.specs.declared.Member.{Member}
-use Rattle.records.proofs.Validity.{count-most, ten-storeys}
 use Rattle.records.specs.Notation.{total}
 use Rattle.storeys.specs.Storey.{knowledgeFault, storeyCallFault}
 use Rattle.checks.specs.Rows.{countFault, storeyIn, membersBefore, membersOf, recordsFault}
 use Rattle.checks.proofs.Refusals.{end, also, one, rest, in-order-none}
-use Rattle.checks.proofs.RowLaws.{members-counted, rows, total-counted, storeys-counted, before-all, header-good}
+use Rattle.checks.proofs.RowLaws.{members-counted, rows, total-counted, before-end}
 use Rattle.storeys.proofs.Accepted.{known-level}
 use Rattle.checks.proofs.RowLoops.{next-within, part-is}
 use Rattle.columns.specs.Bytes.{stamped}
@@ -25,12 +24,6 @@ use Rattle.report.proofs.Rows.{length-storey-lines}
 module _ (h : Header) (ss : List Storey) (ms : List Member) (none : recordsFault h ss ms ≡ 0) where
   counted : total (λ s. s .count) ss ≡ length ms
   counted = total-counted h ss ms none
-
-  pub storeys-most : length ss ≤ 10
-  storeys-most = omega (arith, storeys-counted h ss ms none, ten-storeys h (header-good h ss ms none))
-
-  pub before-end : membersBefore ss (length ss) ≡ length ms
-  before-end = before-all ss ∙ counted
 
   pub part-length : (i : ℕ) → length (membersOf ss ms i) ≡ storeyIn ss i .count
   part-length i = sym (members-counted ss ms i counted)
@@ -51,14 +44,6 @@ module _ (h : Header) (ss : List Storey) (ms : List Member) (none : recordsFault
       (also (one (rest (rest (rows h ss ms none i l))))
       end))))
 
-  before-most : (i : ℕ) → i ≤ length ss → membersBefore ss i ≤ 200 * i
-  unfolding membersBefore
-  before-most zero l = omega arith
-  before-most (suc i) l = omega (arith, before-most i (omega arith), count-most (storeyIn ss i) (one (rows h ss ms none i (omega arith))))
-
-  pub members-most : length ms ≤ 2_000
-  members-most = omega (arith, before-end, before-most (length ss) (omega arith), storeys-most)
-
   -- the rows from `a` on, as many as the storey counts
   module _ (k i a n : ℕ) (level : k ≡ h .knowledge) (l : i < length ss) (before : a ≡ membersBefore ss i) (count : n ≡ storeyIn ss i .count) where
     pub part-clear : storeyCallFault k (storeyIn ss i) (take ((a + n) - a) (drop a ms)) ≡ 0
@@ -73,7 +58,7 @@ module _ (h : Header) (ss : List Storey) (ms : List Member) (none : recordsFault
   pub all-printed : (p a i : ℕ) → i ≤ length ss → length ss ≤ i → a ≡ membersBefore ss i → p ≡ 86 * a + 74 * i → p ≡ 86 * length ms + 74 * length ss
   all-printed p a i l m e f =
       let q : i ≡ length ss = omega arith in
-      let g : a ≡ length ms = e ∙ rw q before-end in
+      let g : a ≡ length ms = e ∙ rw q (before-end h ss ms none) in
       omega (arith, q, g, f)
 
 -- ---- the storeys, one by one

@@ -4,6 +4,7 @@ ghost use Rattle.members.specs.Finding.{returned};
 ghost use Rattle.storeys.specs.Storey.{returnedStorey};
 ghost use Rattle.storeys.specs.Building.{returnedBuilding};
 ghost use Rattle.report.specs.Sheet.{returnedReport};
+ghost use Rattle.writing.specs.Writing.{returnedFile};
 ghost use Rattle.columns.specs.Line.{atFront};
 ghost use Rattle.words.specs.Words.{packed};
 use crate::put_words;
@@ -15,6 +16,8 @@ use storeys::BuildingAnswer;
 use storeys::BuildingJudgment;
 use storeys::StoreyAnswer;
 use storeys::StoreyJudgment;
+use writing::WriteAnswer;
+use writing::Writing;
 
 // Puts class, m, its limit, rotation, its limit, over, n_D. Gives the refusal.
 pub fn put_member(out: &mut [u64], a: MemberAnswer) -> u64
@@ -92,5 +95,21 @@ pub fn put_report(out: &mut [u64], r: ReportJudgment) -> u64
             0
         }
         ReportAnswer::Refused(n) => n,
+    }
+}
+
+// Puts the file's length. Gives the refusal.
+pub fn put_file(out: &mut [u64], r: Writing) -> u64
+    ensures { λ n. ⌜ n ≡ packed (returnedFile (r .answer)) ⌝ }
+    ensures { λ _. ⌜ now (out .exit) ≡ atFront (returnedFile (r .answer) .values) (now (out .entry)) ⌝ }
+{
+    let a = r.answer;
+    match a {
+        WriteAnswer::Written(n) => {
+            let length = [n as u64];
+            put_words(out, &length);
+            0
+        }
+        WriteAnswer::Refused(n) => n,
     }
 }

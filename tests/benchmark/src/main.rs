@@ -7,10 +7,10 @@ use benchmark::surveys::{growth, GROWTH, SIZES};
 const ABOUT: &str = "\
 The proved code (the static library) and the independent program (cargo's release profile) on the same surveys, on which both give the
 same answer. read: from the file's bytes to records; judge: the building, over records already read; report: from records already read to
-the sheet's bytes; whole: from the file's bytes to the sheet's.
-Memory of the proved code: rows, sheet and numbers put out are allocated and written to before counting, and used again by every call; in
+the sheet's bytes; write: from records already read to the file's bytes; whole: from the file's bytes to the sheet's.
+Memory of the proved code: rows, sheet, file and numbers put out are allocated and written to before counting, and used again by every call; in
 the whole way the rows are on the stack and are blanked by every call.
-Memory of the independent program: every call allocates its rows and its sheet and frees them, and this is counted.
+Memory of the independent program: every call allocates its rows, its sheet or its file and frees them, and this is counted.
 Instructions are those of one call after a first one, counted by callgrind, which counts each repetition of a string instruction (the C
 library fills and copies long blocks by them). Times are the fastest of many measurements and differ from run to run.
 ";

@@ -26,14 +26,16 @@ pub enum Stage {
     Judge,
     /// From records to the sheet.
     Report,
+    /// From records to the file's bytes.
+    Write,
     /// From the file's bytes to the sheet's.
     Whole,
 }
 
-pub const STAGES: [Stage; 4] = [Stage::Read, Stage::Judge, Stage::Report, Stage::Whole];
+pub const STAGES: [Stage; 5] = [Stage::Read, Stage::Judge, Stage::Report, Stage::Write, Stage::Whole];
 
 /// The stages of a file that is too long for the whole way.
-pub const PARTS: [Stage; 3] = [Stage::Read, Stage::Judge, Stage::Report];
+pub const PARTS: [Stage; 4] = [Stage::Read, Stage::Judge, Stage::Report, Stage::Write];
 
 /// A survey as both programs take it, and what is lent to the proved code, all of it allocated and written to.
 pub struct Bench {
@@ -45,6 +47,7 @@ pub struct Bench {
     storey_rows: Vec<llunareth::Storey>,
     member_rows: Vec<llunareth::Member>,
     sheet: Vec<u8>,
+    file: Vec<u8>,
     out: [u64; 8],
     returned: u64,
     length: usize,
@@ -62,6 +65,7 @@ impl Bench {
             storey_rows: vec![[1; 3].into(); STOREY_ROWS],
             member_rows: vec![[1; 26].into(); MEMBER_ROWS],
             sheet: vec![1; 86 * survey.members.len() + 74 * survey.storeys.len() + 26],
+            file: vec![1; 50 + 26 * survey.storeys.len() + 210 * survey.members.len()],
             out: [1; 8],
             returned: 1,
             length: 0,
@@ -83,6 +87,7 @@ impl Bench {
             Stage::Read => self.returned = raw::read(black_box(&self.bytes), &mut self.storey_rows, &mut self.member_rows, &mut self.out),
             Stage::Judge => self.returned = raw::judge_building(header, storeys, members, &mut self.out),
             Stage::Report => self.returned = raw::report(header, storeys, members, &mut self.sheet, &mut self.out),
+            Stage::Write => self.returned = raw::write(header, storeys, members, &mut self.file, &mut self.out),
             Stage::Whole => self.length = raw::determine(black_box(&self.bytes), &mut self.sheet),
         }
     }
@@ -94,6 +99,7 @@ impl Bench {
             Stage::Read => drop(black_box(independent::read(bytes, STOREY_ROWS, MEMBER_ROWS))),
             Stage::Judge => drop(black_box(independent::judge_building(header, storeys, members))),
             Stage::Report => drop(black_box(independent::report(header, storeys, members, self.sheet.len()))),
+            Stage::Write => drop(black_box(independent::write_survey(header, storeys, members, self.file.len()))),
             Stage::Whole => drop(black_box(independent::determine(bytes))),
         }
     }
@@ -106,6 +112,7 @@ impl Bench {
             Stage::Read => self.check_read(),
             Stage::Judge => self.check_judged(),
             Stage::Report => self.check_report(),
+            Stage::Write => self.check_write(),
             Stage::Whole => self.check_whole(),
         }
     }
@@ -115,6 +122,7 @@ impl Bench {
         self.storey_rows.fill([1; 3].into());
         self.member_rows.fill([1; 26].into());
         self.sheet.fill(1);
+        self.file.fill(1);
         self.out = [1; 8];
         self.returned = 1;
         self.length = 0;
@@ -143,6 +151,13 @@ impl Bench {
         let sheet = independent::report(&s.header, &s.storeys, &s.members, self.sheet.len()).expect("accepted");
         assert_eq!((self.returned, self.out[0]), (0, sheet.len() as u64));
         assert_eq!(self.sheet, sheet);
+    }
+
+    fn check_write(&self) {
+        let s = &self.survey;
+        assert_eq!(independent::write_survey(&s.header, &s.storeys, &s.members, self.file.len()).as_ref(), Ok(&self.bytes));
+        assert_eq!((self.returned, self.out[0]), (0, self.bytes.len() as u64));
+        assert_eq!(self.file, self.bytes);
     }
 
     fn check_whole(&self) {

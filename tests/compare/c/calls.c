@@ -1,9 +1,10 @@
 /*
  * Prints what the calls of llunareth.h answer for the survey on standard input, by the names of the fields and places: a word and numbers in
- * each line, then the report and what `determine` prints. C99 and C++11.
+ * each line, then the report, the survey written as a file, and what `determine` prints. C99 and C++11.
  */
 #include <inttypes.h>
 #include <stdio.h>
+#include <string.h>
 
 #include "llunareth.h"
 
@@ -13,6 +14,7 @@ enum { FILE_ROOM = 100000 };
 
 static uint8_t file[FILE_ROOM];
 static uint8_t text[LLUNARETH_SHEET_MOST];
+static uint8_t written[FILE_ROOM];
 static struct llunareth_storey storeys[LLUNARETH_STOREY_ROWS];
 static struct llunareth_member members[LLUNARETH_MEMBER_ROWS];
 
@@ -29,10 +31,12 @@ static void print(const char *word, const uint64_t *numbers, size_t count)
 static void print_constants(void)
 {
     const uint64_t version[] = {LLUNARETH_VERSION, llunareth_version()};
-    const uint64_t scales[] = {LLUNARETH_RATIO_SCALE, LLUNARETH_ROTATION_SCALE, LLUNARETH_FORCE_SCALE, LLUNARETH_ZERO_FORCE};
+    const uint64_t scales[] = {LLUNARETH_RATIO_SCALE, LLUNARETH_ROTATION_SCALE, LLUNARETH_FORCE_SCALE, LLUNARETH_ZERO_FORCE,
+                               LLUNARETH_WRITE_MOST};
     const uint64_t values[] = {
         LLUNARETH_SHORT,         LLUNARETH_READ_VALUES,     LLUNARETH_MEMBER_VALUES,
         LLUNARETH_STOREY_VALUES, LLUNARETH_BUILDING_VALUES, LLUNARETH_REPORT_VALUES,
+        LLUNARETH_WRITE_VALUES,
     };
     print("version", version, COUNT(version));
     print("scales", scales, COUNT(scales));
@@ -127,6 +131,29 @@ static void report(const uint64_t *header, size_t storey_rows, size_t member_row
     fwrite(text, 1, (size_t)out[LLUNARETH_REPORT_LENGTH], stdout);
 }
 
+/* The file written, then whether it is read back as the same rows: what reading returns, and whether storeys and members are the same. */
+static void write_and_read(const uint64_t *header, size_t storey_rows, size_t member_rows)
+{
+    static struct llunareth_storey storeys_back[LLUNARETH_STOREY_ROWS];
+    static struct llunareth_member members_back[LLUNARETH_MEMBER_ROWS];
+    uint64_t out[LLUNARETH_WRITE_VALUES] = {0};
+    uint64_t back[LLUNARETH_READ_VALUES] = {0};
+    const uint64_t returned = llunareth_write(header, LLUNARETH_HEADER_NUMBERS, storeys, storey_rows, members, member_rows, written,
+                                              sizeof written, out, LLUNARETH_WRITE_VALUES);
+    const size_t length = (size_t)out[LLUNARETH_WRITE_LENGTH];
+    const uint64_t found[] = {returned, length};
+    print("write", found, COUNT(found));
+    fwrite(written, 1, length, stdout);
+    const uint64_t reread = llunareth_read(written, length, storeys_back, LLUNARETH_STOREY_ROWS, members_back, LLUNARETH_MEMBER_ROWS, back,
+                                           LLUNARETH_READ_VALUES);
+    const uint64_t same[] = {
+        reread,
+        memcmp(storeys, storeys_back, storey_rows * sizeof storeys[0]) == 0,
+        memcmp(members, members_back, member_rows * sizeof members[0]) == 0,
+    };
+    print("reread", same, COUNT(same));
+}
+
 /* What each call returns where `out` is one too short. */
 static void call_short(size_t length, const uint64_t *header, size_t storey_rows, size_t member_rows)
 {
@@ -142,6 +169,8 @@ static void call_short(size_t length, const uint64_t *header, size_t storey_rows
                                  LLUNARETH_BUILDING_VALUES - 1),
         llunareth_report(header, LLUNARETH_HEADER_NUMBERS, storeys, storey_rows, members, member_rows, text, sizeof text, out,
                          LLUNARETH_REPORT_VALUES - 1),
+        llunareth_write(header, LLUNARETH_HEADER_NUMBERS, storeys, storey_rows, members, member_rows, written, sizeof written, out,
+                        LLUNARETH_WRITE_VALUES - 1),
         out[0],
     };
     print("short", returned, COUNT(returned));
@@ -168,6 +197,7 @@ static void call_all(size_t length, const uint64_t *read)
     judge_building(header, storey_rows, member_rows);
     call_short(length, header, storey_rows, member_rows);
     report(header, storey_rows, member_rows);
+    write_and_read(header, storey_rows, member_rows);
 }
 
 int main(void)

@@ -68,6 +68,12 @@ static void report(void)
                                LLUNARETH_REPORT_VALUES);
 }
 
+static void write_file(void)
+{
+    refused = llunareth_write(header, LLUNARETH_HEADER_NUMBERS, storeys, read_storeys, members, read_members, file, FILE_ROOM, out,
+                              LLUNARETH_WRITE_VALUES);
+}
+
 static void determine(void)
 {
     refused = llunareth_determine(file, file_len, text, TEXT_ROOM) == 0 || text[0] != 'M';
@@ -126,6 +132,6 @@ int main(int argc, char **argv)
     good = measure("llunareth_header_fault", check_header) && measure("llunareth_storey_fault", check_storey)
         && measure("llunareth_member_fault", check_member) && measure("llunareth_judge_member", judge_member)
         && measure("llunareth_judge_storey", judge_storey) && measure("llunareth_judge_building", judge_building)
-        && measure("llunareth_report", report) && load(argv[2]) && measure("llunareth_determine", determine);
+        && measure("llunareth_report", report) && measure("llunareth_write", write_file) && load(argv[2]) && measure("llunareth_determine", determine);
     return good ? 0 : 1;
 }

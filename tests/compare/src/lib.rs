@@ -1,6 +1,7 @@
 //! The proved library called from Rust, and its answers as the independent program's types.
 pub mod samples;
 
+use generator::{edge_member_for, Rng};
 use independent::{Header, Member, MemberFinding, Refusal, Storey, StoreyFinding, Survey};
 use llunareth::{raw, BuildingFinding};
 pub use llunareth::{Member as MemberRow, Storey as StoreyRow};
@@ -50,7 +51,7 @@ pub fn member_of(numbers: &[u64; 26]) -> Member {
 
 /// A refusal of the proved library as the independent program has it.
 fn refusal(r: llunareth::Refusal) -> Refusal {
-    Refusal::at(r.number.try_into().expect("a number from 1 to 9"), r.line)
+    Refusal::at(r.number.try_into().expect("the number of a refusal"), r.line)
 }
 
 /// What stands in an `out` before a call: numbers that no call puts out.
@@ -176,6 +177,13 @@ pub fn report(h: &Header, storeys: &[Storey], rows: &[MemberRow], buffer: &mut [
     llunareth::report(&header.into(), &storeys, rows, buffer).map(Vec::from).map_err(refusal)
 }
 
+/// The proved writing call: the file, which stands at the front of `buffer` as well.
+pub fn write(h: &Header, storeys: &[Storey], rows: &[MemberRow], buffer: &mut [u8]) -> Result<Vec<u8>, Refusal> {
+    let (header, storeys) = (header_numbers(h), storey_rows(storeys));
+    assert_left(raw::WRITE_VALUES, &buffer.to_vec(), |file, out| raw::write(&header, &storeys, rows, file, out));
+    llunareth::write(&header.into(), &storeys, rows, buffer).map(Vec::from).map_err(refusal)
+}
+
 /// Judges a member by both programs and panics where they differ; the refusal, if it is one.
 pub fn same_member(k: u64, met: bool, m: &Member) -> Option<Refusal> {
     let numbers = member_numbers(m)?;
@@ -240,6 +248,22 @@ pub fn same_report(survey: &Survey, len: usize) -> Option<Refusal> {
     let expected = independent::report(&survey.header, &survey.storeys, &survey.members, len);
     let mut buffer = pattern(len + BEYOND);
     let found = report(&survey.header, &survey.storeys, &rows, &mut buffer[..len]);
+    assert_filled(&buffer, expected.as_deref().unwrap_or_default());
+    assert!(found == expected, "{len} bytes: {survey:?}");
+    expected.err()
+}
+
+/// The bytes of a file: 50, 26 for each storey and 210 for each member.
+pub fn file_len(survey: &Survey) -> usize {
+    50 + 26 * survey.storeys.len() + 210 * survey.members.len()
+}
+
+/// Writes the survey as a file by both programs into so many bytes and panics where they differ; the refusal, if it is one.
+pub fn same_file(survey: &Survey, len: usize) -> Option<Refusal> {
+    let rows = member_rows(&survey.members)?;
+    let expected = independent::write_survey(&survey.header, &survey.storeys, &survey.members, len);
+    let mut buffer = pattern(len + BEYOND);
+    let found = write(&survey.header, &survey.storeys, &rows, &mut buffer[..len]);
     assert_filled(&buffer, expected.as_deref().unwrap_or_default());
     assert!(found == expected, "{len} bytes: {survey:?}");
     expected.err()
@@ -311,5 +335,16 @@ pub fn plain_column() -> Member {
         m_p: 100,
         v_r: 1,
         ..Member::default()
+    }
+}
+
+/// A building of storeys of 200 members at the edges.
+pub fn at_edges(rng: &mut Rng, storeys: u64) -> Survey {
+    let knowledge = rng.pick(&[90, 100]);
+    let mut member = |i: u64| Member { number: 1 + i % 200, ..edge_member_for(rng, knowledge) };
+    Survey {
+        members: (0..200 * storeys).map(&mut member).collect(),
+        storeys: (1..=storeys).map(|number| Storey { number, shear: 5_000 * number, member_count: 200 }).collect(),
+        header: Header { knowledge, height: 30_000, storeys_above_ground: 10, tilt_1: 0, tilt_2: 0, storey_count: storeys },
     }
 }

@@ -1,5 +1,5 @@
 //! Compares the proved library with the independent program on generated files and records: compare SEED COUNT
-use compare::{same_building, same_determine, same_member, same_report, same_storey, sheet_len};
+use compare::{file_len, same_building, same_determine, same_file, same_member, same_report, same_storey, sheet_len};
 use generator::{any_file, edge_member_for, lent_bytes, lent_rows, valid_survey, wild_member, wild_survey, Rng};
 use independent::Survey;
 
@@ -19,9 +19,10 @@ fn compare_files(rng: &mut Rng, count: u64) -> u64 {
     differences
 }
 
-/// A survey through the report call, the call on a building and that on each of its storeys whose members are there.
+/// A survey through the report call, the writing call, the call on a building and that on each of its storeys whose members are there.
 fn compare_survey(rng: &mut Rng, survey: &Survey) {
     same_report(survey, lent_bytes(rng, sheet_len(survey)));
+    same_file(survey, lent_bytes(rng, file_len(survey)));
     same_building(survey);
     let mut rest = &survey.members[..];
     for s in &survey.storeys {
@@ -45,7 +46,7 @@ fn main() {
         compare_survey(&mut rng, &valid);
         compare_survey(&mut rng, &wild);
     }
-    println!("seed {seed}: {count} files, {differences} differences; members, storeys, buildings, reports and printed sheets agree");
+    println!("seed {seed}: {count} files, {differences} differences; members, storeys, buildings, reports, written files and printed sheets agree");
     if differences > 0 {
         std::process::exit(1);
     }

@@ -198,7 +198,7 @@ fn verdict_on_what_cannot_be_read_or_written() {
 #[test]
 fn verdict_with_another_version_of_the_library() {
     let other = own("other_version.c");
-    fs::write(&other, "unsigned long __wrap_llunareth_version(void) { return 3; }\n").expect("written");
+    fs::write(&other, "unsigned long __wrap_llunareth_version(void) { return 4; }\n").expect("written");
     let mut compiler = compiler("gcc", "-std=c99");
     let program = build(compiler.arg(other).arg("-Wl,--wrap=llunareth_version"), "bindings/c/verdict.c", "verdict_other");
     let output = Command::new(program).arg(samples::folder().join("walls.survey")).output().expect("verdict starts");
@@ -268,15 +268,18 @@ fn survey_lines(survey: &Survey) -> String {
     let found = independent::judge_building(header, storeys, members).expect("accepted");
     let place = judge_building(header, storeys, &member_rows(members).expect("good members")).expect("accepted").place;
     lines += &line("building", &[0, found.tilt_above.into(), found.risky.into(), place]);
-    lines += "short 255 255 255 255 255 0\n";
+    lines += "short 255 255 255 255 255 255 0\n";
     let sheet = independent::report(header, storeys, members, usize::MAX).expect("accepted");
-    lines + &line("report", &[0, sheet.len() as u64]) + std::str::from_utf8(&sheet).expect("text")
+    lines += &(line("report", &[0, sheet.len() as u64]) + std::str::from_utf8(&sheet).expect("text"));
+    let file = independent::write_survey(header, storeys, members, usize::MAX).expect("accepted");
+    lines + &line("write", &[0, file.len() as u64]) + std::str::from_utf8(&file).expect("text") + "reread 0 1 1\n"
 }
 
 /// The constants of the header are those of the Rust package.
 fn constants_lines() -> String {
-    let scales = [llunareth::RATIO_SCALE, llunareth::ROTATION_SCALE, llunareth::FORCE_SCALE, llunareth::ZERO_FORCE];
-    let values = [raw::READ_VALUES, raw::MEMBER_VALUES, raw::STOREY_VALUES, raw::BUILDING_VALUES, raw::REPORT_VALUES];
+    let write_most = llunareth::WRITE_MOST as u64;
+    let scales = [llunareth::RATIO_SCALE, llunareth::ROTATION_SCALE, llunareth::FORCE_SCALE, llunareth::ZERO_FORCE, write_most];
+    let values = [raw::READ_VALUES, raw::MEMBER_VALUES, raw::STOREY_VALUES, raw::BUILDING_VALUES, raw::REPORT_VALUES, raw::WRITE_VALUES];
     let values = values.map(|n| n as u64);
     line("version", &[raw::VERSION; 2]) + &line("scales", &scales) + &line("values", &[&[raw::SHORT], &values[..]].concat())
 }
@@ -314,7 +317,7 @@ fn every_call_by_the_names_of_the_header() {
 // ---- the stack of each call ----
 
 /// Bytes that each call takes at most, as docs/CALLS.md states them.
-const STACKS: [(&str, usize); 9] = [
+const STACKS: [(&str, usize); 10] = [
     ("llunareth_read", 5_000),
     ("llunareth_header_fault", 1_000),
     ("llunareth_storey_fault", 1_000),
@@ -323,6 +326,7 @@ const STACKS: [(&str, usize); 9] = [
     ("llunareth_judge_storey", 3_000),
     ("llunareth_judge_building", 3_000),
     ("llunareth_report", 4_000),
+    ("llunareth_write", 3_000),
     ("llunareth_determine", 72_000),
 ];
 

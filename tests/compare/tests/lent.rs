@@ -138,3 +138,21 @@ fn a_report_written_and_refused() {
         }
     }
 }
+
+#[test]
+fn a_file_written_and_refused() {
+    let example = file(|_| ());
+    let len = example.len();
+    for (number, survey) in surveys() {
+        let (header, storeys) = (header_numbers(&survey.header), storey_rows(&survey.storeys));
+        let rows = member_rows(&survey.members).expect("stored numbers");
+        let call = |file: &mut Vec<u8>, out: &mut [u64]| raw::write(&header, &storeys, &rows, file, out);
+        assert_eq!(assert_left(raw::WRITE_VALUES, &pattern(len + 40), call), number, "{survey:?}");
+        assert_eq!(assert_left(raw::WRITE_VALUES, &pattern(len - 1), call), if number == 0 { 11 } else { number }, "{survey:?}");
+        let (mut file, mut out) = (pattern(len + 40), marks(3));
+        if call(&mut file, &mut out) == 0 {
+            assert_eq!(file, [&example, &pattern(len + 40)[len..]].concat());
+            assert_eq!(out, [&[len as u64], &marks(3)[1..]].concat());
+        }
+    }
+}

@@ -1,7 +1,7 @@
 //! The report call against the independent program, byte by byte.
-use compare::{assert_left, header_numbers, member_rows, pattern, report, same_report, sheet_len, storey_rows, worked_example, WORKED_SHEET};
-use generator::{edge_member_for, lent_bytes, surveys_at_rows, valid_survey, wild_survey, Rng};
-use independent::{Header, Member, Refusal, Storey, Survey};
+use compare::{assert_left, at_edges, header_numbers, member_rows, pattern, report, same_report, sheet_len, storey_rows, worked_example, WORKED_SHEET};
+use generator::{lent_bytes, surveys_at_rows, valid_survey, wild_survey, Rng};
+use independent::{Header, Refusal, Survey};
 use llunareth::raw;
 
 const SEED: u64 = 20_260_118;
@@ -32,17 +32,6 @@ fn every_row_of_the_tables() {
     let mut rng = Rng::new(SEED + 1);
     for survey in surveys_at_rows() {
         in_every_buffer(&mut rng, &survey);
-    }
-}
-
-/// A building of storeys of 200 members at the edges.
-fn at_edges(rng: &mut Rng, storeys: u64) -> Survey {
-    let knowledge = rng.pick(&[90, 100]);
-    let mut member = |i: u64| Member { number: 1 + i % 200, ..edge_member_for(rng, knowledge) };
-    Survey {
-        members: (0..200 * storeys).map(&mut member).collect(),
-        storeys: (1..=storeys).map(|number| Storey { number, shear: 5_000 * number, member_count: 200 }).collect(),
-        header: Header { knowledge, height: 30_000, storeys_above_ground: 10, tilt_1: 0, tilt_2: 0, storey_count: storeys },
     }
 }
 

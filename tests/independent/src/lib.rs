@@ -1,7 +1,8 @@
 //! Risk verdict for low-rise reinforced concrete: a second program after
-//! document 01, with request N10 of document 02, for comparison.
+//! document 01, with requests N1 and N10 of document 02, for comparison.
 //!
-//! NOTES.md lists the points that the paper leaves open and what N10 changed.
+//! NOTES.md lists the points that the papers leave open and what the requests
+//! changed.
 
 mod fraction;
 pub mod members;
@@ -9,9 +10,11 @@ pub mod reading;
 pub mod records;
 pub mod report;
 pub mod storeys;
+pub mod writing;
 
 pub use members::{judge_member, MemberFinding};
 pub use reading::{read, Survey};
 pub use records::{Header, Member, Refusal, Storey};
 pub use report::{determine, report};
 pub use storeys::{judge_building, judge_storey, BuildingFinding, StoreyFinding};
+pub use writing::write_survey;

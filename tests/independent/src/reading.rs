@@ -6,9 +6,10 @@ use crate::records::{
     Storey, HEADER_FIELDS, MEMBER_FIELDS, STOREY_FIELDS,
 };
 
-const LF: u8 = 10;
+pub(crate) const LF: u8 = 10;
 const BLANK: u8 = 32;
-const COLUMNS: usize = 8;
+/// The columns of a field.
+pub(crate) const COLUMNS: usize = 8;
 
 /// What a file holds: the members of all storeys, in survey order.
 #[derive(Clone, Debug, Default, PartialEq, Eq)]
@@ -149,7 +150,7 @@ fn number(text: &[u8], i: usize, minus_may_stand: bool) -> Option<i128> {
     written_number(&text[i * COLUMNS..(i + 1) * COLUMNS], minus_may_stand)
 }
 
-fn written_number(field: &[u8], minus_may_stand: bool) -> Option<i128> {
+pub(crate) fn written_number(field: &[u8], minus_may_stand: bool) -> Option<i128> {
     if field[0] != BLANK {
         return None;
     }

@@ -4,14 +4,9 @@ mod common;
 
 use common::*;
 use independent::{
-    determine, judge_building, judge_member, judge_storey, read, report, Header, Member, Refusal,
-    Storey,
+    determine, judge_building, judge_member, judge_storey, read, report, write_survey, Header,
+    Member, Storey,
 };
-
-fn refused<T: std::fmt::Debug>(result: Result<T, Refusal>) -> (u8, u64) {
-    let refusal = result.unwrap_err();
-    (refusal.number, refusal.line)
-}
 
 fn reading(lines: &[String]) -> (u8, u64) {
     refused(read(lines.concat().as_bytes(), 10, 320))
@@ -320,6 +315,7 @@ fn records_refused_by_one() {
     let of = |h: &Header, storeys: &[Storey], members: &[Member]| {
         let from_building = refused(judge_building(h, storeys, members));
         assert_eq!(from_building, refused(report(h, storeys, members, 0)));
+        assert_eq!(from_building, refused(write_survey(h, storeys, members, 0)));
         from_building
     };
     assert_eq!(of(&header(), &[], &pair()), (1, 0));
@@ -358,6 +354,7 @@ fn records_refused_in_survey_order() {
     let of = |h: &Header, storeys: &[Storey], members: &[Member]| {
         let from_building = refused(judge_building(h, storeys, members));
         assert_eq!(from_building, refused(report(h, storeys, members, 0)));
+        assert_eq!(from_building, refused(write_survey(h, storeys, members, 0)));
         from_building.0
     };
     let bad_side = Member {
@@ -572,6 +569,7 @@ fn extreme_records_never_panic() {
             }
             let _ = judge_building(&h, &[s], &[m]);
             let _ = report(&h, &[s, s], &[m], value as usize);
+            let _ = write_survey(&h, &[s, s], &[m], value as usize);
         }
     }
 }

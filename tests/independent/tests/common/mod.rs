@@ -1,7 +1,13 @@
 //! The worked example's records and a writer of lines.
 #![allow(dead_code)]
 
-use independent::{Header, Member, Storey};
+use independent::{Header, Member, Refusal, Storey};
+
+/// The number and line of a refusal.
+pub fn refused<T: std::fmt::Debug>(result: Result<T, Refusal>) -> (u8, u64) {
+    let refusal = result.unwrap_err();
+    (refusal.number, refusal.line)
+}
 
 /// A line in the house columns from its fields parted by blanks.
 pub fn line(tag: char, fields: &str) -> String {

@@ -6,7 +6,8 @@ use Rattle.records.specs.Blank.{noStorey}
 use Rattle.checks.specs.Rows.{storeyIn, membersBefore}
 use Rattle.columns.specs.Bytes.{stamped}
 use Rattle.report.specs.Sheet.{storeyLines, storeysLines}
-use Rattle.report.proofs.Survey.{members-most, part-clear, part-size, part-ends, all-printed, storeys-next, storeys-end}
+use Rattle.report.proofs.Survey.{part-clear, part-size, part-ends, all-printed, storeys-next, storeys-end}
+use Rattle.checks.proofs.RowLaws.{members-most}
 use Rattle.checks.proofs.RowLoops.{none-before, next-before, part-is}
 use mathlib.Core.List.{List, [], _∷_}
 use mathlib.Core.Path.{_≡_, refl, ap, _∙_}

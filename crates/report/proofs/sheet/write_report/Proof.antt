@@ -3,7 +3,7 @@ use native.Mathlib.Omega.{arith}
 use lib.ListN.{length}
 use mathlib.Core.List.{[], _∷_}
 use borrow.Author.Tests.{eqb-true, eqb-false, not-true, not-false}
-use Rattle.report.proofs.Survey.{storeys-most, members-most}
+use Rattle.checks.proofs.RowLaws.{storeys-most, members-most}
 use Rattle.report.proofs.Called.{few, fault-is, answer-refused, buffer-refused, building-clear, room-enough, answer-written, buffer-written}
 use mathlib.Core.Path.{refl, _∙_}
 use contract.Lifetimes.{Lfts, Shares}

@@ -2,26 +2,26 @@
 use Prim.Native.Nat.{ℕ, zero, suc, _+_, _≤_, _<_}
 use native.Mathlib.Omega.{arith}
 use native.Mathlib.Nat.{le-refl}
-use mathlib.Core.Bool.{Bool, true, false}
 use mathlib.Core.List.{List, [], _∷_, _++_, append-assoc, append-nil}
 use mathlib.Core.Path.{_≡_, refl, sym, _∙_}
 use lib.Dec.{eqb}
 use lib.ListN.{length, drop, length-drop, drop-of-length-le}
 use lib.Seq.{take-all, take-append-le, drop-append-le}
 use borrow.Author.Tests.{eqb-true}
-use Rattle.records.specs.Notation.{pick, listed, total}
 use Rattle.records.specs.Records.{storeyValues, memberValues}
 use Rattle.format.specs.Lines.{headerAt}
-use Rattle.reading.specs.Survey.{lineStart, membersBefore, storey, memberStart, member, surveyFault, firstMembers, accepted, refused, survey}
+use Rattle.reading.specs.Survey.{lineStart, membersBefore, storey, memberStart, member, surveyFault, firstMembers, accepted, survey}
+use Rattle.records.specs.Notation.{listed, total}
 use Rattle.format.specs.Text.{lineText}
-use Rattle.reading.specs.Writing.{membersText, storeysText, fileText, memberCount}
+use Rattle.writing.specs.File.{membersText, storeyText, storeysText, fileText}
 use Rattle.records.specs.declared.Header.{Header}
 use Rattle.records.specs.declared.Storey.{Storey}
 use Rattle.records.specs.declared.Member.{Member}
 use Rattle.records.specs.declared.Tag.the-variants.{S, M}
 use Rattle.format.proofs.LineText.{header-text, storey-text, member-text}
 use Rattle.reading.proofs.Accepted.{header-clean, storey-clean, member-clean, nothing-after}
 use Rattle.reading.proofs.Numbers.{length-listed, length-members}
+use Rattle.reading.proofs.Passed.{total-all, of-accepted}
 
 -- ---- one more record at the end
 members-more : (ms xs : List Member) → membersText (ms ++ xs) ≡ membersText ms ++ membersText xs
@@ -29,14 +29,9 @@ unfolding membersText
 members-more [] xs = refl
 members-more (m ∷ ms) xs = rw (members-more ms xs) (sym (append-assoc (lineText M (memberValues m)) (membersText ms) (membersText xs)))
 
-pub total-more : (ss : List Storey) (st : Storey) → memberCount (ss ++ (st ∷ [])) ≡ memberCount ss + st .count
-unfolding total
-total-more [] st = omega arith
-total-more (x ∷ ss) st = omega (arith, total-more ss st)
-
 module _ (st : Storey) (xs : List Member) (e : st .count ≡ length xs) where
-  storeys-more : (ss : List Storey) (ms : List Member) → memberCount ss ≡ length ms → storeysText (ss ++ (st ∷ [])) (ms ++ xs) ≡ storeysText ss ms ++ (lineText S (storeyValues st) ++ membersText xs)
-  unfolding storeysText total
+  storeys-more : (ss : List Storey) (ms : List Member) → total (λ (t : Storey). t .count) ss ≡ length ms → storeysText (ss ++ (st ∷ [])) (ms ++ xs) ≡ storeysText ss ms ++ (lineText S (storeyValues st) ++ membersText xs)
+  unfolding storeyText storeysText total
   storeys-more [] [] h = rw (take-all (st .count) xs (omega arith)) (simp append-nil)
   storeys-more [] (m ∷ ms) h = let z : ⊥ = omega arith in absurd z
   storeys-more (x ∷ ss) ms h =
@@ -54,11 +49,6 @@ module _ (s : List ℕ) (srows mrows : ℕ) (z : surveyFault s srows mrows .numb
       members-text i c h (omega arith)
       ∙ rw (member-text s (memberStart s i c) (member-clean s srows mrows z i h c l), p, members-more (listed (member s i) c) (member s i c ∷ [])) (simp (append-assoc, append-nil))
 
-  pub total-all : (i : ℕ) → memberCount (listed (storey s) i) ≡ membersBefore s i
-  unfolding listed membersBefore total
-  total-all zero = refl
-  total-all (suc i) = total-more (listed (storey s) i) (storey s i) ∙ rw (total-all i)
-
   storeys-text : (i : ℕ) → i ≤ headerAt s 0 .count → drop 50 s ≡ storeysText (listed (storey s) i) (firstMembers s i) ++ drop (lineStart i (membersBefore s i)) s
   unfolding listed firstMembers membersBefore storeysText
   storeys-text zero h = refl
@@ -71,7 +61,7 @@ module _ (s : List ℕ) (srows mrows : ℕ) (z : surveyFault s srows mrows .numb
         p,
         members-text i (storey s i .count) h (le-refl _),
         q,
-        storeys-more (storey s i) (listed (member s i) (storey s i .count)) (sym (length-listed (member s i) (storey s i .count))) (listed (storey s) i) (firstMembers s i) (total-all i ∙ sym (length-members s i)),
+        storeys-more (storey s i) (listed (member s i) (storey s i .count)) (sym (length-listed (member s i) (storey s i .count))) (listed (storey s) i) (firstMembers s i) (total-all s i ∙ sym (length-members s i)),
       )
       (simp append-assoc)
 
@@ -80,10 +70,6 @@ module _ (s : List ℕ) (srows mrows : ℕ) (z : surveyFault s srows mrows .numb
   file-text =
       header-text s 0 (header-clean s srows mrows z)
       ∙ rw (storeys-text (headerAt s 0 .count) (le-refl _), drop-of-length-le s (nothing-after s srows mrows z)) (simp append-nil)
-
-pub of-accepted : (t : Bool) (h k : Header) (ss us : List Storey) (ms ns : List Member) (r l : ℕ) → pick t (accepted h ss ms) (refused r l) ≡ accepted k us ns → (t ≡ true) × (h ≡ k) × (ss ≡ us) × (ms ≡ ns)
-of-accepted true h k ss us ms ns r l e = (refl, cc, cc, cc)
-of-accepted false h k ss us ms ns r l e = let z : _≡_ {A = ℕ} 0 1 = cc in absurd (omega arith)
 
 -- writing what was read gives the bytes
 pub resent : (s : List ℕ) (srows mrows : ℕ) (h : Header) (ss : List Storey) (ms : List Member) → survey s srows mrows ≡ accepted h ss ms → s ≡ fileText h ss ms

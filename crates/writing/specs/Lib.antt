@@ -1,0 +1,4 @@
+pub mod File
+pub mod Writing
+pub mod Sizes
+pub mod RoundTrips

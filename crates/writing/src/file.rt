@@ -1,0 +1,79 @@
+// The writing call, over lent rows of storeys and members. Whole records are moved here; whatever looks into one is in `lines`.
+ghost use mathlib.Core.Path.{_≡_};
+ghost use Prim.Native.Nat.{_+_, _*_, _≤_};
+ghost use lib.ListN.{length};
+ghost use Rattle.columns.specs.Bytes.{stamped};
+ghost use Rattle.writing.specs.File.{membersText, storeyText, storeysText};
+ghost use Rattle.writing.specs.Writing.{returnedFile, fileReturned, fileAfter};
+ghost use Rattle.checks.specs.RowChecks.{Counted};
+use crate::Writing;
+use crate::lines::file_fault;
+use crate::lines::put_header;
+use crate::lines::put_member;
+use crate::lines::put_storey;
+use crate::lines::refused_file;
+use crate::lines::written_file;
+use checks::records_fault;
+use records::Header;
+use records::Member;
+use records::Storey;
+use records::numbers::count_of;
+
+// The M lines of some members.
+fn put_members(out: &mut [u8], at: usize, rows: &[Member]) -> usize
+    requires { ⌜ at + 210 * length (now rows) ≤ length (now out) ⌝ }
+    ensures { λ r. ⌜ r ≡ at + 210 * length (now (rows .entry)) ⌝ }
+    ensures { λ _. ⌜ now (out .exit) ≡ stamped (now (out .entry)) at (membersText (now (rows .entry))) ⌝ }
+{
+    let mut p = at;
+    let mut j = 0;
+    while j < rows.len() {
+        p = put_member(out, p, rows[j]);
+        j = j + 1;
+    }
+    p
+}
+
+// The S line of a storey and its M lines.
+fn put_storey_lines(out: &mut [u8], at: usize, s: Storey, rows: &[Member]) -> usize
+    requires { ⌜ at + (26 + 210 * length (now rows)) ≤ length (now out) ⌝ }
+    ensures { λ r. ⌜ r ≡ at + (26 + 210 * length (now (rows .entry))) ⌝ }
+    ensures { λ _. ⌜ now (out .exit) ≡ stamped (now (out .entry)) at (storeyText s (now (rows .entry))) ⌝ }
+{
+    let p = put_storey(out, at, s);
+    put_members(out, p, rows)
+}
+
+// The lines of all storeys.
+fn put_storeys(out: &mut [u8], at: usize, storeys: &[Storey], members: &[Member]) -> usize
+    requires { ⌜ Counted (now storeys) (now members) × (length (now members) ≤ 2_000) × (at + (26 * length (now storeys) + 210 * length (now members)) ≤ length (now out)) ⌝ }
+    ensures { λ r. ⌜ r ≡ at + (26 * length (now (storeys .entry)) + 210 * length (now (members .entry))) ⌝ }
+    ensures { λ _. ⌜ now (out .exit) ≡ stamped (now (out .entry)) at (storeysText (now (storeys .entry)) (now (members .entry))) ⌝ }
+{
+    let mut p = at;
+    let mut a = 0;
+    let mut i = 0;
+    while i < storeys.len() {
+        let s = storeys[i];
+        let b = a + count_of(s);
+        p = put_storey_lines(out, p, s, &members[a..b]);
+        a = b;
+        i = i + 1;
+    }
+    p
+}
+
+// The writing call: the file of good records, from the front of the lent bytes.
+pub fn write_file(h: Header, storeys: &[Storey], members: &[Member], out: &mut [u8]) -> Writing
+    ensures { λ r. ⌜ returnedFile (r .answer) ≡ fileReturned h (now (storeys .entry)) (now (members .entry)) (length (now (out .entry))) ⌝ }
+    ensures { λ _. ⌜ now (out .exit) ≡ fileAfter h (now (storeys .entry)) (now (members .entry)) (now (out .entry)) ⌝ }
+{
+    let records = records_fault(h, storeys, members);
+    let fault = file_fault(records, storeys.len(), members.len(), out.len());
+    if fault != 0 {
+        return refused_file(fault);
+    }
+    let p = put_header(out, h);
+    let end = put_storeys(out, p, storeys, members);
+    written_file(end)
+}
