@@ -16,7 +16,8 @@ use Rattle.members.proofs.Returned.{answer-is}
 use Rattle.members.specs.declared.finding.Finding.{Finding}
 use Rattle.members.specs.declared.finding.MemberAnswer.{MemberAnswer}
 use Rattle.members.specs.declared.finding.MemberAnswer.the-variants.{Judged, Refused}
-use Rattle.members.specs.Tables.{published, publishedShare}
+use Rattle.members.specs.declared.tables.Share.{Share}
+use Rattle.members.specs.Tables.{published}
 use Rattle.members.specs.Finding.{axial, axialRatioD, finding, findingBy, knowledge, answerBy, returned, memberReturned}
 
 -- the order in which the tests of a storey are made
@@ -32,26 +33,26 @@ or-none x y z s e f g = rw (e, f, g)
 or-some : (x y z s : Bool) → x ≡ false → z ≡ false → y ≡ true → s ≡ (x || ((y && s) || z))
 or-some x y z s e f g = rw (e, f, g) (sym (or-false s))
 
-module _ (shear c : ℕ) (t : Tally) where
+module _ (share : Share) (shear c : ℕ) (t : Tally) where
   abbrev shared : Bool
-  shared = exceedsShare publishedShare (t .«axial_total») c (t .«over_shear») shear
+  shared = exceedsShare share (t .«axial_total») c (t .«over_shear») shear
 
   abbrev loaded : Bool
-  loaded = ltb (publishedShare .ends .r2 * c) (t .«axial_total»)
+  loaded = ltb (share .ends .r2 * c) (t .«axial_total»)
 
   abbrev hurt : Bool
   hurt = leb (7 * c) (t .damage)
 
-  pub risky-first : shared ≡ true → true ≡ riskyBy shear c t
+  pub risky-first : shared ≡ true → true ≡ riskyBy share shear c t
   risky-first e = or-first shared _ e
 
-  pub risky-second : hurt ≡ true → true ≡ riskyBy shear c t
+  pub risky-second : hurt ≡ true → true ≡ riskyBy share shear c t
   risky-second e = or-last shared (loaded && t .some) hurt e
 
-  pub risky-third : shared ≡ false → hurt ≡ false → loaded ≡ false → false ≡ riskyBy shear c t
+  pub risky-third : shared ≡ false → hurt ≡ false → loaded ≡ false → false ≡ riskyBy share shear c t
   risky-third e f g = or-none shared loaded hurt (t .some) e f g
 
-  pub risky-last : shared ≡ false → hurt ≡ false → loaded ≡ true → t .some ≡ riskyBy shear c t
+  pub risky-last : shared ≡ false → hurt ≡ false → loaded ≡ true → t .some ≡ riskyBy share shear c t
   risky-last e f g = or-some shared loaded hurt (t .some) e f g
 
 -- ---- a good member is judged, and its n_D is a ratio

@@ -52,6 +52,21 @@ same-test a b c d f g = go (decLe b a) (decLe d c)
     go (no h) k = lt-ltb a b (omega arith) ∙ sym (lt-ltb c d (f (omega arith)))
 
 module _ (σ c p w : ℕ) where
+  -- the way between the ends
+  fall : 100 * p * (65_000 * c - 10_000 * c) ≡ 5_500_000 * (p * c)
+  fall = let e : 65_000 * c - 10_000 * c ≡ 55_000 * c = omega arith in rw e (omega arith)
+
+  some-part : w * (35 * 0 + 0 * (σ - 10_000 * c)) < 100 * p * (65_000 * c - 10_000 * c) → 0 < p
+  some-part h = go (decLe p 0)
+    where
+      go : Dec (p ≤ 0) → 0 < p
+      go (no k) = omega arith
+      go (yes k) =
+          let e : p ≡ 0 = omega arith in
+          let z : 5_500_000 * (p * c) ≡ 0 = rw e (omega arith) in
+          let f : ⊥ = omega (arith, h, fall, z) in
+          absurd f
+
   -- "0.35 while Σ ≤ 10,000 × c"
   at-first : σ ≤ 10_000 * c → exceedsShare publishedShare σ c p w ≡ ltb (7 * w) (20 * p)
   unfolding exceedsShare
@@ -69,14 +84,14 @@ module _ (σ c p w : ℕ) where
           let z : 65_000 * c - σ ≡ 0 = omega arith in
           let pos : 0 < c = omega arith in
           rw (share-between publishedShare σ c h l, z)
-          (same-test (w * (35 * 0 + 0 * (σ - 10_000 * c))) (100 * p * (65_000 * c - 10_000 * c)) 0 p (λ l. ?) (λ l. ?))
+          (same-test (w * (35 * 0 + 0 * (σ - 10_000 * c))) (100 * p * (65_000 * c - 10_000 * c)) 0 p (λ l. some-part l) (λ l. omega (arith, fall, mul-le-mul-left 5_500_000 (mul-pos l pos))))
 
   -- "7 × (65,000 × c − Σ) / (1,100,000 × c) between"
   between : 10_000 * c < σ → σ < 65_000 * c → exceedsShare publishedShare σ c p w ≡ ltb (7 * w * (65_000 * c - σ)) (1_100_000 * c * p)
   unfolding exceedsShare
   between h k =
       rw (share-between publishedShare σ c h (omega arith))
-      (same-test (w * (35 * (65_000 * c - σ) + 0 * (σ - 10_000 * c))) (100 * p * (65_000 * c - 10_000 * c)) (7 * w * (65_000 * c - σ)) (1_100_000 * c * p) (λ l. ?) (λ l. ?))
+      (same-test (w * (35 * (65_000 * c - σ) + 0 * (σ - 10_000 * c))) (100 * p * (65_000 * c - 10_000 * c)) (7 * w * (65_000 * c - σ)) (1_100_000 * c * p) (λ l. omega (arith, l, fall)) (λ l. omega (arith, l, fall)))
 
 pub published-share : PublishedShare
 published-share σ c p w = go (decLe σ (10_000 * c)) (decLe (65_000 * c) σ)

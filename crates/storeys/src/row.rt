@@ -2,7 +2,7 @@
 ghost use mathlib.Core.List.{[], _∷_};
 ghost use mathlib.Core.Path.{_≡_};
 ghost use Prim.Native.Nat.{_+_, _*_, _≤_};
-ghost use lib.Dec.{leb};
+ghost use lib.Dec.{leb, ltb};
 ghost use Rattle.members.specs.Limits.{row, interp};
 ghost use Rattle.members.specs.Sizes.{SizedShare};
 ghost use Rattle.storeys.specs.Storey.{wallShear, allowedShare, exceedsShare};
@@ -168,6 +168,14 @@ fn exceeds_share(share: Share, axial_total: u64, c: u64, over_shear: u64, shear:
     shear * allowed.num < 100 * over_shear * allowed.den
 }
 
+// The axial ratios of c members are above the second end.
+fn past_second_end(share: Share, axial_total: u64, c: u64) -> bool
+    requires { ⌜ SizedShare share × (c ≤ 200) ⌝ }
+    ensures { λ r. ⌜ r ≡ ltb (share .ends .r2 * c) «axial_total» ⌝ }
+{
+    share.ends.r2 * c < axial_total
+}
+
 // The storey's finding, from its totals.
 pub(crate) fn finding_of(s: Storey, rows: usize, met: bool, t: Tally) -> StoreyFinding
     requires { ⌜ Small s rows t ⌝ }
@@ -179,26 +187,22 @@ pub(crate) fn finding_of(s: Storey, rows: usize, met: bool, t: Tally) -> StoreyF
         members: c,
         over_shear: t.over_shear,
         shear: s.shear,
-        risky: is_risky(s.shear, c, t),
+        risky: is_risky(Share::published(), s.shear, c, t),
         walls_suffice: met,
     }
 }
 
-fn is_risky(shear: u64, c: u64, t: Tally) -> bool
-    requires { ⌜ (c ≤ 200) × (t .«over_shear» ≤ 2_000_000_000) × (shear ≤ 9_999_999) ⌝ }
-    ensures { λ r. ⌜ r ≡ riskyBy shear c t ⌝ }
+fn is_risky(share: Share, shear: u64, c: u64, t: Tally) -> bool
+    requires { ⌜ SizedShare share × (c ≤ 200) × (t .«over_shear» ≤ 2_000_000_000) × (shear ≤ 9_999_999) ⌝ }
+    ensures { λ r. ⌜ r ≡ riskyBy share shear c t ⌝ }
 {
-    let share = Share::published();
     if exceeds_share(share, t.axial_total, c, t.over_shear, shear) {
         return true;
     }
     if 7 * c <= t.damage {
         return true;
     }
-    if t.axial_total <= share.ends.r2 * c {
-        return false;
-    }
-    t.some
+    past_second_end(share, t.axial_total, c) && t.some
 }
 
 pub(crate) fn refused_storey(number: u64) -> StoreyJudgment
