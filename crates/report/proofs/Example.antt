@@ -12,7 +12,7 @@ use Rattle.members.specs.Class.{detailed, columnClass, wallClass, classOf}
 use Rattle.members.specs.Tables.{places, moments, rotations}
 use Rattle.members.specs.Limits.{interp, blend, columnA, columnB, columnC, wallRows, wallB, mLimitAt, rotationLimitAt}
 use Rattle.members.specs.Finding.{axial, moment, stress, hoops, mLimit, rotationLimit, mDropped, isOver, findingBy}
-use Rattle.storeys.specs.Storey.{meetsWallShare, axialTotal, overShear, someOver, damaged, exceedsShare, riskyByDamage, storeyRisky, storeyFinding}
+use Rattle.storeys.specs.Storey.{meetsWallShare, axialTotal, overShear, someOver, damaged, allowedShare, exceedsShare, riskyByDamage, storeyRisky, storeyFinding}
 use Rattle.checks.specs.Rows.{membersBefore, membersOf}
 use Rattle.storeys.specs.Building.{riskyAt, tilted, someRisky, buildingRisky}
 use Rattle.columns.specs.Line.{printedNumbers, line}
@@ -86,5 +86,5 @@ abbrev lastLine : List ℕ
 lastLine = 66 ∷ 32 ∷ 32 ∷ 32 ∷ 32 ∷ 32 ∷ 32 ∷ 32 ∷ 32 ∷ 32 ∷ 32 ∷ 32 ∷ 48 ∷ 32 ∷ 32 ∷ 32 ∷ 32 ∷ 32 ∷ 32 ∷ 32 ∷ 32 ∷ 32 ∷ 32 ∷ 32 ∷ 49 ∷ 10 ∷ []
 
 pub printed : sheet header (storey ∷ []) (one ∷ other ∷ []) ≡ firstLine ++ (secondLine ++ (thirdLine ++ lastLine))
-unfolding sheet storeysLines storeyLines memberLines memberLine storeyLine buildingLine line printedNumbers spelled column anyBelow detailed columnClass wallClass classOf places moments rotations interp blend columnA columnB columnC wallRows wallB mLimitAt rotationLimitAt axial moment stress hoops mLimit rotationLimit mDropped isOver findingBy total anyOf meetsWallShare axialTotal overShear someOver damaged exceedsShare riskyByDamage storeyRisky storeyFinding membersBefore membersOf riskyAt tilted someRisky buildingRisky
+unfolding sheet storeysLines storeyLines memberLines memberLine storeyLine buildingLine line printedNumbers spelled column anyBelow detailed columnClass wallClass classOf places moments rotations interp blend columnA columnB columnC wallRows wallB mLimitAt rotationLimitAt axial moment stress hoops mLimit rotationLimit mDropped isOver findingBy total anyOf meetsWallShare axialTotal overShear someOver damaged allowedShare exceedsShare riskyByDamage storeyRisky storeyFinding membersBefore membersOf riskyAt tilted someRisky buildingRisky
 printed = refl
