@@ -20,13 +20,13 @@ above f g p p' w pos under hp h = go (decLe (100 * p' * g .den) (w * g .num))
     go (no k) = omega arith
     go (yes k) =
         let z : ⊥ =
-            omega (
-              arith,
-              mul-le-mul-right (f .den) k,
-              mul-le-mul-left w (under .cross),
-              mul-lt-mul-of-pos-right h pos,
-              mul-le-mul-right (100 * (f .den * g .den)) hp,
-            )
+        omega (
+          arith,
+          mul-le-mul-right (f .den) k,
+          mul-le-mul-left w (under .cross),
+          mul-lt-mul-of-pos-right h pos,
+          mul-le-mul-right (100 * (f .den * g .den)) hp,
+        )
         in
         absurd z
 

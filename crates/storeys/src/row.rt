@@ -137,7 +137,10 @@ fn linear(from: u64, to: u64, first: u64, second: u64, x: u64) -> Fraction
         return Fraction { num: first, den: 1 };
     }
     if to < x {
-        return Fraction { num: second, den: 1 };
+        return Fraction {
+            num: second,
+            den: 1,
+        };
     }
     Fraction {
         num: first * (to - x) + second * (x - from),
