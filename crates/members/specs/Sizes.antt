@@ -1,4 +1,4 @@
--- The sizes that the code computes with, so that no product wraps; they leave room for a grid ten times as fine.
+-- The sizes that the code computes with, so that no product wraps.
 use Prim.Native.Nat.{ℕ, _*_, _/_, _≤_, _<_, min}
 use Rattle.members.specs.Units.{Microradians}
 use Rattle.members.specs.declared.limits.Row.{Row}
