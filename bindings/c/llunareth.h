@@ -27,7 +27,7 @@ extern "C" {
  * The form of the calls as this header has it. A program holds it against llunareth_version() once, before any other call: each change of a
  * call, and each call that is added, raises it.
  */
-#define LLUNARETH_VERSION 3
+#define LLUNARETH_VERSION 4
 
 /* How many numbers a record has. */
 enum {
@@ -41,7 +41,7 @@ enum { LLUNARETH_ZERO_FORCE = 20000000 };
 
 /* A number divided by its scale is the figure in the unit named. */
 enum {
-    LLUNARETH_RATIO_SCALE = 10000,      /* 1: m and its limit, n_D, the total of n_D */
+    LLUNARETH_RATIO_SCALE = 100000,     /* 1: m and its limit, n_D, the total of n_D */
     LLUNARETH_ROTATION_SCALE = 1000000, /* rad: rotations and their limits, tilts */
     LLUNARETH_FORCE_SCALE = 10          /* kN: forces (N_D and N_K after LLUNARETH_ZERO_FORCE is taken away); kNm: moments */
 };
@@ -139,18 +139,18 @@ enum {
 /* Places of the values of llunareth_judge_member. */
 enum {
     LLUNARETH_MEMBER_CLASS = 0,    /* 1 to 3 columns A to C, 4 and 5 walls A and B */
-    LLUNARETH_MEMBER_M = 1,        /* ten-thousandths, as its limit */
+    LLUNARETH_MEMBER_M = 1,        /* hundred-thousandths, as its limit */
     LLUNARETH_MEMBER_M_LIMIT = 2,
     LLUNARETH_MEMBER_ROTATION = 3, /* microradians, as its limit */
     LLUNARETH_MEMBER_ROTATION_LIMIT = 4,
     LLUNARETH_MEMBER_OVER = 5,     /* 0 or 1 */
-    LLUNARETH_MEMBER_ND = 6,       /* the axial ratio n_D, ten-thousandths */
+    LLUNARETH_MEMBER_ND = 6,       /* the axial ratio n_D, hundred-thousandths */
     LLUNARETH_MEMBER_VALUES = 7    /* how many values there are */
 };
 
 /* Places of the values of llunareth_judge_storey. */
 enum {
-    LLUNARETH_STOREY_AXIAL_TOTAL = 0,   /* total of n_D, ten-thousandths */
+    LLUNARETH_STOREY_AXIAL_TOTAL = 0,   /* total of n_D, hundred-thousandths */
     LLUNARETH_STOREY_MEMBERS = 1,       /* c */
     LLUNARETH_STOREY_OVER_SHEAR = 2,    /* P, total of V over the members that are over, 0.1 kN */
     LLUNARETH_STOREY_SHEAR = 3,         /* W, the storey shear, 0.1 kN */

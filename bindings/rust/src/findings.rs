@@ -27,7 +27,7 @@ impl fmt::Display for Refusal {
 
 impl std::error::Error for Refusal {}
 
-/// What is found of a member. Ratios are in ten-thousandths ([`RATIO_SCALE`](crate::RATIO_SCALE)), rotations in microradians
+/// What is found of a member. Ratios are in hundred-thousandths ([`RATIO_SCALE`](crate::RATIO_SCALE)), rotations in microradians
 /// ([`ROTATION_SCALE`](crate::ROTATION_SCALE)).
 #[derive(Clone, Copy, Debug, PartialEq, Eq, Hash)]
 pub struct MemberFinding {
@@ -46,7 +46,7 @@ pub struct MemberFinding {
 /// What is found of a storey. Forces are in 0.1 kN ([`FORCE_SCALE`](crate::FORCE_SCALE)).
 #[derive(Clone, Copy, Debug, PartialEq, Eq, Hash)]
 pub struct StoreyFinding {
-    /// Σ, the total of n_D, ten-thousandths.
+    /// Σ, the total of n_D, hundred-thousandths.
     pub axial_total: u64,
     /// c.
     pub members: u64,

@@ -98,8 +98,8 @@ pub fn member_fault(member: &Member) -> Result<(), Refusal> {
 ///     ZERO_FORCE + 3_150, ZERO_FORCE + 3_150, 600, 200, 60, 100, 200, 9_000, 0,
 /// ]);
 /// let found = judge_member(100, false, &member)?;
-/// assert_eq!((found.class, found.m, found.m_limit, found.over), (2, 3 * RATIO_SCALE, 25_909, true));
-/// assert_eq!((found.rotation, found.rotation_limit, found.nd), (9_000, 12_500, 3_500));
+/// assert_eq!((found.class, found.m, found.m_limit, found.over), (2, 3 * RATIO_SCALE, 259_090, true));
+/// assert_eq!((found.rotation, found.rotation_limit, found.nd), (9_000, 12_500, 35_000));
 /// assert_eq!(judge_member(95, false, &member).unwrap_err().number, 3);
 /// # Ok::<(), llunareth::Refusal>(())
 /// ```
@@ -116,7 +116,7 @@ pub fn judge_member(k: u64, met: bool, member: &Member) -> Result<MemberFinding,
 /// # let (mut storeys, mut members) = ([llunareth::Storey::default(); 10], [llunareth::Member::default(); 320]);
 /// let survey = llunareth::read(&file, &mut storeys, &mut members)?;
 /// let found = llunareth::judge_storey(survey.header.knowledge, &survey.storeys[0], survey.members)?;
-/// assert_eq!((found.axial_total, found.members, found.over_shear, found.shear), (7_500, 2, 200, 1_000));
+/// assert_eq!((found.axial_total, found.members, found.over_shear, found.shear), (75_000, 2, 200, 1_000));
 /// assert!(found.risky && !found.walls_suffice);
 /// let refusal = llunareth::judge_storey(100, &survey.storeys[0], &survey.members[..1]).unwrap_err();
 /// assert_eq!(refusal.number, 1);

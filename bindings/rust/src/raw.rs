@@ -10,7 +10,7 @@ use crate::{Member, Storey};
 use std::sync::OnceLock;
 
 /// The form of the calls that this package knows.
-pub const VERSION: u64 = 3;
+pub const VERSION: u64 = 4;
 
 /// Returned where `out` is too short for a call's values; no refusal has this number.
 pub const SHORT: u64 = 255;
@@ -237,8 +237,8 @@ mod tests {
     }
 
     #[test]
-    #[should_panic(expected = "the linked library has version 4 of the calls, this package version 3")]
+    #[should_panic(expected = "the linked library has version 5 of the calls, this package version 4")]
     fn another_version() {
-        expect(4);
+        expect(5);
     }
 }

@@ -4,7 +4,7 @@
 pub const ZERO_FORCE: u64 = 20_000_000;
 
 /// A ratio divided by this is the ratio itself: m and its limit, n_D, Σ.
-pub const RATIO_SCALE: u64 = 10_000;
+pub const RATIO_SCALE: u64 = 100_000;
 
 /// A rotation, its limit or a tilt divided by this is in radians.
 pub const ROTATION_SCALE: u64 = 1_000_000;

@@ -15,7 +15,7 @@ use Rattle.members.specs.Limits.{interp, blend, columnA, columnB, columnC, wall
 use Rattle.members.specs.Finding.{axial, moment, stress, hoops, mLimit, rotationLimit, mDropped, isOver, findingBy, answerBy}
 use Rattle.storeys.specs.declared.BuildingAnswer.{BuildingAnswer}
 use Rattle.storeys.specs.declared.BuildingAnswer.the-variants.{Judged}
-use Rattle.storeys.specs.Storey.{publishedRules, meetsWallShare, axialTotal, overShear, someOver, damaged, exceedsShare, riskyByDamage, storeyRisky, storeyFinding, storeyCallFault, storeyAnswerBy}
+use Rattle.storeys.specs.Storey.{publishedRules, meetsWallShare, axialTotal, overShear, someOver, damaged, allowedShare, exceedsShare, riskyByDamage, storeyRisky, storeyFinding, storeyCallFault, storeyAnswerBy}
 use Rattle.checks.specs.Rows.{rowFault, memberRowsFault, membersBefore, membersOf, countsFault, storeyRowsFault, recordsFault}
 use Rattle.records.specs.Blank.{noMember}
 use Rattle.storeys.specs.Building.{riskyAt, tilted, someRisky, buildingRisky, buildingAnswerBy, named}
@@ -181,7 +181,7 @@ pub record Found : Type 0 where
   pub building-risky : buildingRiskyIn answerOne ≡ true
 
 pub found : Found
-unfolding everyBelow anyBelow first headerFault storeyFault memberFault detailed columnClass wallClass classOf places moments rotations interp blend columnA columnB columnC wallRows wallB mLimitAt rotationLimitAt axial moment stress hoops mLimit rotationLimit mDropped isOver findingBy answerBy total anyOf meetsWallShare axialTotal overShear someOver damaged exceedsShare riskyByDamage storeyRisky storeyFinding noMember rowFault memberRowsFault storeyCallFault storeyAnswerBy membersBefore membersOf riskyAt countsFault storeyRowsFault recordsFault tilted someRisky buildingRisky buildingAnswerBy
+unfolding everyBelow anyBelow first headerFault storeyFault memberFault detailed columnClass wallClass classOf places moments rotations interp blend columnA columnB columnC wallRows wallB mLimitAt rotationLimitAt axial moment stress hoops mLimit rotationLimit mDropped isOver findingBy answerBy total anyOf meetsWallShare axialTotal overShear someOver damaged allowedShare exceedsShare riskyByDamage storeyRisky storeyFinding noMember rowFault memberRowsFault storeyCallFault storeyAnswerBy membersBefore membersOf riskyAt countsFault storeyRowsFault recordsFault tilted someRisky buildingRisky buildingAnswerBy
 found =
     record {
       one-accepted = record { answers = record { same = refl; place = named 1 (omega arith) refl }; no-refusal = refl };

@@ -7,7 +7,7 @@ use mathlib.Core.List.{List}
 use mathlib.Core.Path.{_≡_, refl, sym, subst}
 use lib.Dec.{ltb}
 use lib.ListN.{length}
-use borrow.Author.Tests.{ltb-true}
+use borrow.Author.Tests.{leb-true, ltb-true}
 use Rattle.records.specs.Notation.{pick}
 use Rattle.records.specs.Valid.{Valid}
 use Rattle.records.specs.declared.Member.{Member}
@@ -27,13 +27,15 @@ use Rattle.comparison.proofs.Damage.{weight, weight-mono, damage-carrie
 -- rules that keep the order, as facts
 pub record Orderly (rules : Rules) : Type 0 where
   pub limits : orderedSet (rules .limits) ≡ true
-  pub ends : rules .ends .r1 < rules .ends .r2
+  pub ends : rules .share .ends .r1 < rules .share .ends .r2
+  pub shares : rules .share .shares .r2 ≤ rules .share .shares .r1
 
 pub rules-ordered : (rules : Rules) → orderly rules ≡ true → Orderly rules
 rules-ordered rules e =
     record {
       limits = and-left (orderedSet (rules .limits)) _ e;
-      ends = ltb-true _ _ (and-right (orderedSet (rules .limits)) _ e);
+      ends = ltb-true _ _ (and-left (ltb (rules .share .ends .r1) (rules .share .ends .r2)) _ (and-right (orderedSet (rules .limits)) _ e));
+      shares = leb-true _ _ (and-right (ltb (rules .share .ends .r1) (rules .share .ends .r2)) _ (and-right (orderedSet (rules .limits)) _ e));
     }
 
 counted : (a b : Bool) (x y : ℕ) → (a ≡ true → b ≡ true) → x ≤ y → pick a x 0 ≤ pick b y 0
@@ -91,9 +93,9 @@ module _ (rules : Rules) (good : Orderly rules) (k w : ℕ) (pos : 0 < k) {ms ns
     risky-carried-at met e f c =
         rw (e, f, ← length-equal p)
         (or-carried _ _ _ _
-        (share-carried (rules .ends) (length ms) _ _ w _ _ (good .ends) c (over-shear-carried met) axial-carried)
+        (share-carried (rules .share) (length ms) _ _ w _ _ (good .ends) (good .shares) c (over-shear-carried met) axial-carried)
         (or-carried _ _ _ _
-        (and-carried (ltb (rules .ends .r2 * length ms) (axialTotal ms)) _ (ltb (rules .ends .r2 * length ms) (axialTotal ns)) _ (excess-carried _ _ _ _ (le-refl (rules .ends .r2 * length ms)) axial-carried) (some-over-carried met))
+        (and-carried (ltb (rules .share .ends .r2 * length ms) (axialTotal ms)) _ (ltb (rules .share .ends .r2 * length ms) (axialTotal ns)) _ (excess-carried _ _ _ _ (le-refl (rules .share .ends .r2 * length ms)) axial-carried) (some-over-carried met))
         (damage-carried p weights-carried)))
 
     pub risky-carried : 0 < length ms → storeyRisky rules k w ms ≡ true → storeyRisky rules k w ns ≡ true

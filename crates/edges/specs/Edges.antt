@@ -36,7 +36,7 @@ edgeMember c =
       number = c .number;
       long = c .long;
       short = c .short;
-      area = 100_000;
+      area = 1_000_000;
       fcm = 100;
       fctm = 100;
       fyw = 2_200;
@@ -95,7 +95,7 @@ tilt t1 t2 =
 abbrev pub oneDamaged : ℕ → List Member
 oneDamaged n = listed (λ i. loaded (i + 1) 0 0 0 (pick (eqb i 0) 4 0)) n
 
--- what is answered, beside what document 01 states
+-- what is answered, beside what document 01 states, on the grid of document 02 (N2)
 pub record Edge : Type 0 where
   pub found : List ℕ
   pub stated : List ℕ
@@ -105,25 +105,25 @@ edge found stated = record { found = found; stated = stated }
 
 unfoldable pub edges : List Edge
 edges =
-    -- (a) column A, n 3,500
-    edge (limits 100 (edgeColumn 3_500 1 0 60 100)) (1 ∷ 45_000 ∷ 27_500 ∷ [])
-    -- (b) column B, n 3,500, ρ 3,250
-    ∷ edge (limits 100 (edgeColumn 3_500 0 0 60 100)) (2 ∷ 31_875 ∷ 15_625 ∷ [])
+    -- (a) column A, n 35,000
+    edge (limits 100 (edgeColumn 35_000 1 0 60 100)) (1 ∷ 450_000 ∷ 27_500 ∷ [])
+    -- (b) column B, n 35,000, ρ 3,250
+    ∷ edge (limits 100 (edgeColumn 35_000 0 0 60 100)) (2 ∷ 318_750 ∷ 15_625 ∷ [])
     -- (c) same, strengthened, factor 100
-    ∷ edge (limits 100 (edgeColumn 3_500 0 1 60 100)) (2 ∷ 23_906 ∷ 11_718 ∷ [])
-    -- (d) column C, n 8,500
-    ∷ edge (limits 100 (edgeColumn 8_500 0 0 200 100)) (3 ∷ 10_000 ∷ 2_500 ∷ [])
-    -- (e) wall A with zone, n 1,750, v 11,000
-    ∷ edge (limits 100 (edgeWall 1_750 1_100)) (4 ∷ 43_750 ∷ 18_750 ∷ [])
+    ∷ edge (limits 100 (edgeColumn 35_000 0 1 60 100)) (2 ∷ 239_062 ∷ 11_718 ∷ [])
+    -- (d) column C, n 85,000
+    ∷ edge (limits 100 (edgeColumn 85_000 0 0 200 100)) (3 ∷ 100_000 ∷ 2_500 ∷ [])
+    -- (e) wall A with zone, n 17,500, v 110,000
+    ∷ edge (limits 100 (edgeWall 17_500 1_100)) (4 ∷ 437_500 ∷ 18_750 ∷ [])
     -- (f) k 90, V_r 100, detailed: V_e 63 is A, 64 B
     ∷ edge (class 90 (edgeColumn 0 1 0 63 100)) (1 ∷ [])
     ∷ edge (class 90 (edgeColumn 0 1 0 64 100)) (2 ∷ [])
-    -- (g) Σ 7,500, c 2: P 175 of 1,000 passes, 176 is Risky
-    ∷ edge (verdict (loaded 1 3_500 1_000 175 0 ∷ loaded 2 4_000 0 500 0 ∷ [])) (7_500 ∷ 2 ∷ 175 ∷ 1_000 ∷ 0 ∷ [])
-    ∷ edge (verdict (loaded 1 3_500 1_000 176 0 ∷ loaded 2 4_000 0 500 0 ∷ [])) (7_500 ∷ 2 ∷ 176 ∷ 1_000 ∷ 1 ∷ [])
-    -- (h) Σ = 6,500 × c with one member over of V 0 passes; Σ one more is Risky
-    ∷ edge (verdict (loaded 1 6_500 1_000 0 0 ∷ loaded 2 6_500 0 500 0 ∷ [])) (13_000 ∷ 2 ∷ 0 ∷ 1_000 ∷ 0 ∷ [])
-    ∷ edge (verdict (loaded 1 6_501 1_000 0 0 ∷ loaded 2 6_500 0 500 0 ∷ [])) (13_001 ∷ 2 ∷ 0 ∷ 1_000 ∷ 1 ∷ [])
+    -- (g) Σ 75,000, c 2: P 175 of 1,000 passes, 176 is Risky
+    ∷ edge (verdict (loaded 1 35_000 1_000 175 0 ∷ loaded 2 40_000 0 500 0 ∷ [])) (75_000 ∷ 2 ∷ 175 ∷ 1_000 ∷ 0 ∷ [])
+    ∷ edge (verdict (loaded 1 35_000 1_000 176 0 ∷ loaded 2 40_000 0 500 0 ∷ [])) (75_000 ∷ 2 ∷ 176 ∷ 1_000 ∷ 1 ∷ [])
+    -- (h) Σ = 65,000 × c with one member over of V 0 passes; Σ one more is Risky
+    ∷ edge (verdict (loaded 1 65_000 1_000 0 0 ∷ loaded 2 65_000 0 500 0 ∷ [])) (130_000 ∷ 2 ∷ 0 ∷ 1_000 ∷ 0 ∷ [])
+    ∷ edge (verdict (loaded 1 65_001 1_000 0 0 ∷ loaded 2 65_000 0 500 0 ∷ [])) (130_001 ∷ 2 ∷ 0 ∷ 1_000 ∷ 1 ∷ [])
     -- (i) one damage 4 among 20 is Risky, among 21 not
     ∷ edge (verdict (oneDamaged 20)) (0 ∷ 20 ∷ 0 ∷ 1_000 ∷ 1 ∷ [])
     ∷ edge (verdict (oneDamaged 21)) (0 ∷ 21 ∷ 0 ∷ 1_000 ∷ 0 ∷ [])

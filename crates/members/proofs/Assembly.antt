@@ -13,9 +13,9 @@ use Rattle.members.specs.declared.tables.LimitSet.{LimitSet}
 use Rattle.members.specs.declared.units.Ratio.{Ratio}
 use Rattle.members.specs.declared.units.Microradians.{Microradians}
 use Rattle.members.specs.Class.{classOf}
-use Rattle.members.specs.Tables.{published, places, moments, rotations}
+use Rattle.members.specs.Tables.{published, publishedShare, places, moments, rotations}
 use Rattle.members.specs.Limits.{mLimitAt, rotationLimitAt}
-use Rattle.members.specs.Sizes.{SizedSet}
+use Rattle.members.specs.Sizes.{SizedShare, SizedSet}
 use Rattle.members.specs.Finding.{axialRatioD, momentRatio, mLimit, rotationLimit, mDropped, exceeds, isOver, findingBy, knowledge}
 use Rattle.members.specs.Assembly.{ratios}
 use Rattle.members.proofs.Rounding.{microradians}
@@ -32,6 +32,9 @@ level-sized k e = go (eqb k 90) (eqb k 100) (eqb-true k 90) (eqb-true k 100) e
     go : (a b : Bool) → (a ≡ true → k ≡ 90) → (b ≡ true → k ≡ 100) → (a || b) ≡ true → (1 ≤ k) × (k ≤ 100)
     go true b f g e = (omega (arith, f refl), omega (arith, f refl))
     go false b f g e = (omega (arith, g e), omega (arith, g e))
+
+pub share-sized : SizedShare publishedShare
+share-sized = record { ends = record { first = omega arith; most = omega arith }; shares = record { r1 = omega arith; r2 = omega arith } }
 
 -- the published set is within the sizes that the code computes with
 pub published-sized : SizedSet published

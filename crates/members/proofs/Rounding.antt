@@ -41,11 +41,11 @@ ratio-mono h k p = scaled-up _ h k p
 quotient-mono : {a a' : ℕ} (b : ℕ) → a' ≤ a → 0 < b → a' / b ≤ a / b
 quotient-mono {a} {a'} b h p = le-div-iff-mul-le p .1 (omega (arith, div-mul-le-self a' b))
 
-scaled-down : (scale : ℕ) {a a' : ℕ} (b : ℕ) → a' ≤ a → 0 < b → min ratioCap (a' * scale / b) ≤ min ratioCap (a * scale / b)
-scaled-down scale {a} {a'} b h p = omega (arith, quotient-mono {a = a * scale} {a' = a' * scale} b (mul-le-mul-right scale h) p)
+scaled-down : (cap scale : ℕ) {a a' : ℕ} (b : ℕ) → a' ≤ a → 0 < b → min cap (a' * scale / b) ≤ min cap (a * scale / b)
+scaled-down cap scale {a} {a'} b h p = omega (arith, quotient-mono {a = a * scale} {a' = a' * scale} b (mul-le-mul-right scale h) p)
 
 pub hoop-mono : {a a' : ℕ} (b : ℕ) → a' ≤ a → 0 < b → hoopDown a' b .0 ≤ hoopDown a b .0
-hoop-mono b h p = scaled-down _ b h p
+hoop-mono b h p = scaled-down _ _ b h p
 
 -- below the cap a rotation is as it is without one
 pub below-cap : (a b : ℕ) → 0 < b → a ≤ microCap * b → microDown a b ≡ microSteps a b

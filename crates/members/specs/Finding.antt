@@ -10,7 +10,7 @@ use Rattle.members.specs.declared.finding.{Finding.Finding, MemberAnswer
 abbrev pub compression : ℕ → ℕ
 compression force = force - zeroForce
 
--- "axial n = 10,000,000 × N_K / (f_cm × A_c), up": ten-thousandths of 1,000 × N_K / (f_cm × A_c)
+-- "axial n = 10,000,000 × N_K / (f_cm × A_c), up": 1,000 × N_K / (f_cm × A_c) in steps of the grid, ten-thousandths there, hundred-thousandths from N2 on; m and v likewise
 unfoldable pub axial : ℕ → ℕ → ℕ → Ratio
 axial force fcm area = ratioUp (compression force * 1_000) (fcm * area)
 

@@ -1,4 +1,4 @@
--- The sizes that the code computes with, so that no product wraps; they leave room for a grid ten times as fine.
+-- The sizes that the code computes with, so that no product wraps.
 use Prim.Native.Nat.{ℕ, _*_, _/_, _≤_, _<_, min}
 use Rattle.members.specs.Units.{Microradians}
 use Rattle.members.specs.declared.limits.Row.{Row}
@@ -8,6 +8,7 @@ use Rattle.members.specs.declared.tables.Two.{Two}
 use Rattle.members.specs.declared.tables.Places.{Places}
 use Rattle.members.specs.declared.tables.Table.{Table}
 use Rattle.members.specs.declared.tables.LimitSet.{LimitSet}
+use Rattle.members.specs.declared.tables.Share.{Share}
 
 -- what the field of a rotation holds at most ("run from 0 .. to 9,999,999"): the cap of the code's unit, which no limit reaches (`below-cap` of proofs/Rounding)
 abbrev pub microCap : ℕ
@@ -54,6 +55,11 @@ pub record SizedTable (most : ℕ) (t : Table) : Type 0 where
   pub plain1 : Most2 most (t .plain1)
   pub plain2 : Most2 most (t .plain2)
   pub wall : Most2 most (t .wall)
+
+-- a share that the code can weigh
+pub record SizedShare (s : Share) : Type 0 where
+  pub ends : Places2 (s .ends)
+  pub shares : Most2 100 (s .shares)
 
 -- a row that the code can weigh
 pub record SizedRow (p : Row) : Type 0 where

@@ -1,6 +1,6 @@
 -- The tables of limits (document 01, "Member").
 use Rattle.records.specs.Notation.{ℕ}
-pub use Rattle.members.specs.declared.tables.{Four.Four, Two.Two, Places.Places, Table.Table, LimitSet.LimitSet}
+pub use Rattle.members.specs.declared.tables.{Four.Four, Two.Two, Places.Places, Table.Table, LimitSet.LimitSet, Share.Share}
 
 abbrev pub four : ℕ → ℕ → ℕ → ℕ → Four
 four a b c d = record { r1 = a; r2 = b; r3 = c; r4 = d }
@@ -10,22 +10,22 @@ two a b = record { r1 = a; r2 = b }
 
 -- where the rows stand: n of columns, ρ of column B, n and v of walls
 unfoldable pub places : Places
-places = record { axial = four 1_000 6_000 7_000 10_000; hoops = two 500 6_000; walls = two 1_000 2_500; stress = two 9_000 13_000 }
+places = record { axial = four 10_000 60_000 70_000 100_000; hoops = two 500 6_000; walls = two 10_000 25_000; stress = two 90_000 130_000 }
 
 -- the limits of m: columns A, B (1 and 2 for the first and the second ρ) and C at the n above; wall A with boundary zone and without at the two v (1 and 2 for
 -- the first and the second n of walls); wall B at the two v
 unfoldable pub moments : Table
 moments =
     record {
-      a = four 60_000 30_000 10_000 10_000;
-      b1 = four 25_000 12_500 10_000 10_000;
-      b2 = four 60_000 30_000 10_000 10_000;
-      c = two 10_000 10_000;
-      zone1 = two 70_000 40_000;
-      zone2 = two 40_000 25_000;
-      plain1 = two 45_000 25_000;
-      plain2 = two 25_000 15_000;
-      wall = two 50_000 25_000;
+      a = four 600_000 300_000 100_000 100_000;
+      b1 = four 250_000 125_000 100_000 100_000;
+      b2 = four 600_000 300_000 100_000 100_000;
+      c = two 100_000 100_000;
+      zone1 = two 700_000 400_000;
+      zone2 = two 400_000 250_000;
+      plain1 = two 450_000 250_000;
+      plain2 = two 250_000 150_000;
+      wall = two 500_000 250_000;
     }
 
 -- the limits of the rotation, in microradians
@@ -42,6 +42,10 @@ rotations =
       plain2 = two 10_000 5_000;
       wall = two 20_000 10_000;
     }
+
+-- the allowed share of a storey, hundredths, at two axial ratios per member: "0.35 while Σ ≤ 10,000 × c, 0 from Σ = 65,000 × c" (document 02, N2)
+abbrev pub publishedShare : Share
+publishedShare = record { ends = two 10_000 65_000; shares = two 35 0 }
 
 -- the set that document 01 publishes
 abbrev pub published : LimitSet

@@ -6,16 +6,26 @@ pub use Rattle.members.specs.declared.units.{Ratio.Ratio, HoopRatio.Hoop
 abbrev pub ceiling : ℕ → ℕ → ℕ
 ceiling a b = (a + (b - 1)) / b
 
--- n, m, v and ρ are "capped at 999,999"
-abbrev pub ratioCap : ℕ
-ratioCap = 999_999
+-- "The ratios n, n_D, m and v now count hundred-thousandths, capped at 9,999,999" (document 02, N2)
+abbrev pub ratioScale : ℕ
+ratioScale = 100_000
 
--- a / b as a ratio, rounded up: "n, m and v count ten-thousandths"; as a hoop ratio, rounded down: "ρ millionths"
+abbrev pub ratioCap : ℕ
+ratioCap = 9_999_999
+
+-- "ρ millionths", "capped at 999,999"
+abbrev pub hoopScale : ℕ
+hoopScale = 1_000_000
+
+abbrev pub hoopCap : ℕ
+hoopCap = 999_999
+
+-- a / b as a ratio, rounded up; as a hoop ratio, rounded down
 abbrev pub ratioUp : ℕ → ℕ → Ratio
-ratioUp a b = record { 0 = min ratioCap (ceiling (a * 10_000) b) }
+ratioUp a b = record { 0 = min ratioCap (ceiling (a * ratioScale) b) }
 
 abbrev pub hoopDown : ℕ → ℕ → HoopRatio
-hoopDown a b = record { 0 = min ratioCap (a * 1_000_000 / b) }
+hoopDown a b = record { 0 = min hoopCap (a * hoopScale / b) }
 
 -- a limit of a / b steps of its grid, rounded down
 abbrev pub ratioSteps : ℕ → ℕ → Ratio

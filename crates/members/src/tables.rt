@@ -1,6 +1,6 @@
 // The tables of limits (document 01, "Member"). A set is data: the places of its rows, and for m and for the rotation the limits that stand there.
 ghost use mathlib.Core.Path.{_≡_};
-ghost use Rattle.members.specs.Tables.{places, moments, rotations, published};
+ghost use Rattle.members.specs.Tables.{places, moments, rotations, published, publishedShare};
 
 // A number at each of four rows.
 pub struct Four {
@@ -94,64 +94,64 @@ impl LimitSet {
 
 const PLACES: Places = Places {
     axial: Four {
-        r1: 1_000,
-        r2: 6_000,
-        r3: 7_000,
-        r4: 10_000,
+        r1: 10_000,
+        r2: 60_000,
+        r3: 70_000,
+        r4: 100_000,
     },
     hoops: Two { r1: 500, r2: 6_000 },
     walls: Two {
-        r1: 1_000,
-        r2: 2_500,
+        r1: 10_000,
+        r2: 25_000,
     },
     stress: Two {
-        r1: 9_000,
-        r2: 13_000,
+        r1: 90_000,
+        r2: 130_000,
     },
 };
 
 const MOMENTS: Table = Table {
     a: Four {
-        r1: 60_000,
-        r2: 30_000,
-        r3: 10_000,
-        r4: 10_000,
+        r1: 600_000,
+        r2: 300_000,
+        r3: 100_000,
+        r4: 100_000,
     },
     b1: Four {
-        r1: 25_000,
-        r2: 12_500,
-        r3: 10_000,
-        r4: 10_000,
+        r1: 250_000,
+        r2: 125_000,
+        r3: 100_000,
+        r4: 100_000,
     },
     b2: Four {
-        r1: 60_000,
-        r2: 30_000,
-        r3: 10_000,
-        r4: 10_000,
+        r1: 600_000,
+        r2: 300_000,
+        r3: 100_000,
+        r4: 100_000,
     },
     c: Two {
-        r1: 10_000,
-        r2: 10_000,
+        r1: 100_000,
+        r2: 100_000,
     },
     zone1: Two {
-        r1: 70_000,
-        r2: 40_000,
+        r1: 700_000,
+        r2: 400_000,
     },
     zone2: Two {
-        r1: 40_000,
-        r2: 25_000,
+        r1: 400_000,
+        r2: 250_000,
     },
     plain1: Two {
-        r1: 45_000,
-        r2: 25_000,
+        r1: 450_000,
+        r2: 250_000,
     },
     plain2: Two {
-        r1: 25_000,
-        r2: 15_000,
+        r1: 250_000,
+        r2: 150_000,
     },
     wall: Two {
-        r1: 50_000,
-        r2: 25_000,
+        r1: 500_000,
+        r2: 250_000,
     },
 };
 
@@ -197,10 +197,25 @@ const ROTATIONS: Table = Table {
     },
 };
 
-// The axial ratios per member at which the allowed share of a storey begins to fall and is 0, and 20 times the way between them; they stand on
-// the grid of `Ratio`.
-pub const SHARE_FROM: u64 = 1_000;
+// The allowed share of a storey: in hundredths at the first and the second axial ratio per member, which stand on the grid of `Ratio`; linear between them.
+pub struct Share {
+    pub ends: Two,
+    pub shares: Two,
+}
 
-pub const SHARE_TO: u64 = 6_500;
+impl Share {
+    // The share that document 02 publishes.
+    pub fn published() -> Self
+        ensures { λ r. ⌜ r ≡ publishedShare ⌝ }
+    {
+        PUBLISHED_SHARE
+    }
+}
 
-pub const SHARE_FALL: u64 = 110_000;
+const PUBLISHED_SHARE: Share = Share {
+    ends: Two {
+        r1: 10_000,
+        r2: 65_000,
+    },
+    shares: Two { r1: 35, r2: 0 },
+};

@@ -4,7 +4,7 @@ ghost use Prim.Native.Nat.{_^_, _<_, _≤_};
 ghost use Rattle.members.specs.Units.{ratioUp, hoopDown, ratioSteps};
 ghost use Rattle.members.specs.Sizes.{microDown};
 
-// n, n_D, m, v and the limits of m: ten-thousandths.
+// n, n_D, m, v and the limits of m: hundred-thousandths.
 pub struct Ratio(pub u64);
 
 // The hoop ratio ρ: millionths.
@@ -14,9 +14,9 @@ pub struct HoopRatio(pub u64);
 pub struct Microradians(pub u64);
 
 impl Ratio {
-    pub const SCALE: u64 = 10_000;
+    pub const SCALE: u64 = 100_000;
 
-    pub const CAP: u64 = 999_999;
+    pub const CAP: u64 = 9_999_999;
 
     // num / den on the grid, rounded up and capped.
     pub(crate) fn up(num: u64, den: u64) -> Ratio

@@ -5,7 +5,7 @@ use native.Mathlib.Nat.{mul-le-mul}
 use mathlib.Core.Bool.{Bool, true, false, _&&_, _||_, or-true, or-false}
 use mathlib.Core.Path.{_≡_, sym, ap}
 use lib.Dec.{leb, ltb}
-use Rattle.storeys.specs.Storey.{exceedsShare, publishedRules}
+use Rattle.storeys.specs.Storey.{exceedsShare}
 use Rattle.storeys.specs.declared.row.Tally.{Tally}
 use Rattle.storeys.specs.Tally.{weightOf, riskyBy, added, addedBy, AddsUp, AddsNumbers}
 use Rattle.records.specs.Records.{memberFault}
@@ -16,15 +16,9 @@ use Rattle.members.proofs.Returned.{answer-is}
 use Rattle.members.specs.declared.finding.Finding.{Finding}
 use Rattle.members.specs.declared.finding.MemberAnswer.{MemberAnswer}
 use Rattle.members.specs.declared.finding.MemberAnswer.the-variants.{Judged, Refused}
+use Rattle.members.specs.declared.tables.Share.{Share}
 use Rattle.members.specs.Tables.{published}
 use Rattle.members.specs.Finding.{axial, axialRatioD, finding, findingBy, knowledge, answerBy, returned, memberReturned}
-
--- the products of the share test fit
-pub share-left : (w d : ℕ) → w ≤ 9_999_999 → d ≤ 1_300_000 → 7 * w * d ≤ 90_999_990_900_000
-share-left w d h g = omega (arith, mul-le-mul h g)
-
-pub share-right : (c p : ℕ) → c ≤ 200 → p ≤ 10_000_000_000 → 110_000 * c * p ≤ 220_000_000_000_000_000
-share-right c p h g = omega (arith, mul-le-mul h g)
 
 -- the order in which the tests of a storey are made
 or-first : (x z : Bool) → x ≡ true → true ≡ (x || z)
@@ -39,26 +33,26 @@ or-none x y z s e f g = rw (e, f, g)
 or-some : (x y z s : Bool) → x ≡ false → z ≡ false → y ≡ true → s ≡ (x || ((y && s) || z))
 or-some x y z s e f g = rw (e, f, g) (sym (or-false s))
 
-module _ (shear c : ℕ) (t : Tally) where
+module _ (share : Share) (shear c : ℕ) (t : Tally) where
   abbrev shared : Bool
-  shared = exceedsShare (publishedRules .ends) (t .«axial_total») c (t .«over_shear») shear
+  shared = exceedsShare share (t .«axial_total») c (t .«over_shear») shear
 
   abbrev loaded : Bool
-  loaded = ltb (publishedRules .ends .r2 * c) (t .«axial_total»)
+  loaded = ltb (share .ends .r2 * c) (t .«axial_total»)
 
   abbrev hurt : Bool
   hurt = leb (7 * c) (t .damage)
 
-  pub risky-first : shared ≡ true → true ≡ riskyBy shear c t
+  pub risky-first : shared ≡ true → true ≡ riskyBy share shear c t
   risky-first e = or-first shared _ e
 
-  pub risky-second : hurt ≡ true → true ≡ riskyBy shear c t
+  pub risky-second : hurt ≡ true → true ≡ riskyBy share shear c t
   risky-second e = or-last shared (loaded && t .some) hurt e
 
-  pub risky-third : shared ≡ false → hurt ≡ false → loaded ≡ false → false ≡ riskyBy shear c t
+  pub risky-third : shared ≡ false → hurt ≡ false → loaded ≡ false → false ≡ riskyBy share shear c t
   risky-third e f g = or-none shared loaded hurt (t .some) e f g
 
-  pub risky-last : shared ≡ false → hurt ≡ false → loaded ≡ true → t .some ≡ riskyBy shear c t
+  pub risky-last : shared ≡ false → hurt ≡ false → loaded ≡ true → t .some ≡ riskyBy share shear c t
   risky-last e f g = or-some shared loaded hurt (t .some) e f g
 
 -- ---- a good member is judged, and its n_D is a ratio

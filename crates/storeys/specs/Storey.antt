@@ -1,19 +1,19 @@
 -- The judgment of a storey (document 01, "Storey and building", "Refusals as returned"): any storey record with any rows of members.
-use Rattle.records.specs.Notation.{ℕ, _+_, _-_, _*_, Bool, _&&_, _||_, List, [], _∷_, leb, ltb, eqb, length, pick, inOrder, total, anyOf}
+use Rattle.records.specs.Notation.{ℕ, _+_, _-_, _*_, Bool, _&&_, _||_, List, [], _∷_, _≡_, leb, ltb, eqb, length, pick, inOrder, total, anyOf}
 use Rattle.records.specs.{declared.Storey.Storey, declared.Member.Member, Records.storeyFault}
 use Rattle.checks.specs.Rows.{countFault, memberRowsFault}
-use Rattle.members.specs.{declared.tables.Two.Two, declared.tables.LimitSet.LimitSet, Class.isWall, Tables.two, Tables.published}
+use Rattle.members.specs.{declared.tables.Share.Share, declared.tables.LimitSet.LimitSet, declared.limits.Fraction.Fraction, Class.isWall, Tables.published, Tables.publishedShare, Limits.row, Limits.interp}
 use Rattle.members.specs.Finding.{axialRatioD, findingBy, knowledge, flag, Returned, found, refused}
 use Rattle.storeys.specs.declared.{StoreyFinding.StoreyFinding, StoreyAnswer.StoreyAnswer, StoreyAnswer.the-variants.Judged, StoreyAnswer.the-variants.Refused}
 
--- what a survey is judged by: the limits of the members, and the axial ratios per member between which the allowed share falls
+-- what a survey is judged by: the limits of the members, and the allowed share of a storey
 pub record Rules : Type 0 where
   pub limits : LimitSet
-  pub ends : Two
+  pub share : Share
 
--- the rules that document 01 publishes; the ends are ten-thousandths, as n_D is
+-- the rules that documents 01 and 02 publish
 abbrev pub publishedRules : Rules
-publishedRules = record { limits = published; ends = two 1_000 6_500 }
+publishedRules = record { limits = published; share = publishedShare }
 
 -- the V of a wall, and of a column nothing
 abbrev pub wallShear : Member → ℕ
@@ -47,23 +47,31 @@ someOver rules k met ms = anyOf (over rules k met) ms
 unfoldable pub damaged : ℕ → List Member → ℕ
 damaged kind ms = total (λ m. flag (eqb (m .damage) kind)) ms
 
--- "The allowed share is 0.35 while Σ ≤ 1,000 × c, 0 from Σ = 6,500 × c, and 7 × (6,500 × c − Σ) / (110,000 × c) between": P / W exceeds it,
--- where 110,000 is 20 × (6,500 − 1,000)
-unfoldable pub exceedsShare : Two → ℕ → ℕ → ℕ → ℕ → Bool
-exceedsShare ends σ c p w =
-    pick (leb σ (ends .r1 * c)) (ltb (7 * w) (20 * p)) (pick (leb (ends .r2 * c) σ) (ltb 0 p)
-    (ltb (7 * w * (ends .r2 * c - σ)) (20 * (ends .r2 - ends .r1) * c * p)))
+-- the allowed share in hundredths, at the axial ratios Σ of c members: linear between the ends and constant outside
+unfoldable pub allowedShare : Share → ℕ → ℕ → Fraction
+allowedShare share σ c =
+    interp (row (share .ends .r1 * c) (share .shares .r1)) (row (share .ends .r2 * c) (share .shares .r2) ∷ []) σ
+
+-- "P / W exceeds it"
+unfoldable pub exceedsShare : Share → ℕ → ℕ → ℕ → ℕ → Bool
+exceedsShare share σ c p w = ltb (w * allowedShare share σ c .num) (100 * p * allowedShare share σ c .den)
+
+-- "0.35 while Σ ≤ 10,000 × c, 0 from Σ = 65,000 × c, and 7 × (65,000 × c − Σ) / (1,100,000 × c) between": what the published share comes to (law `published-share`)
+abbrev pub PublishedShare : Type 0
+PublishedShare =
+    (σ c p w : ℕ) → exceedsShare publishedShare σ c p w ≡ pick (leb σ (10_000 * c)) (ltb (7 * w) (20 * p)) (pick (leb (65_000 * c) σ) (ltb 0 p)
+    (ltb (7 * w * (65_000 * c - σ)) (1_100_000 * c * p)))
 
 -- "20 × h1 + 28 × h2 + 35 × h3 + 140 × h4 ≥ 7 × c"
 unfoldable pub riskyByDamage : List Member → Bool
 riskyByDamage ms = leb (7 * length ms) (20 * damaged 1 ms + 28 * damaged 2 ms + 35 * damaged 3 ms + 140 * damaged 4 ms)
 
--- "A storey is Risky when P / W exceeds it; or Σ > 6,500 × c and some member is over; or" by its damage
+-- "A storey is Risky when P / W exceeds it; or Σ > 65,000 × c and some member is over; or" by its damage
 unfoldable pub storeyRisky : Rules → ℕ → ℕ → List Member → Bool
 storeyRisky rules k w ms =
     let met = meetsWallShare w ms in
-    exceedsShare (rules .ends) (axialTotal ms) (length ms) (overShear rules k met ms) w
-    || ((ltb (rules .ends .r2 * length ms) (axialTotal ms) && someOver rules k met ms) || riskyByDamage ms)
+    exceedsShare (rules .share) (axialTotal ms) (length ms) (overShear rules k met ms) w
+    || ((ltb (rules .share .ends .r2 * length ms) (axialTotal ms) && someOver rules k met ms) || riskyByDamage ms)
 
 unfoldable pub storeyFinding : Rules → ℕ → ℕ → List Member → StoreyFinding
 storeyFinding rules k w ms =

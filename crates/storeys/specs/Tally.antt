@@ -13,6 +13,8 @@ use Rattle.members.specs.Units.{ratioCap}
 use Rattle.members.specs.Finding.{axialRatioD, flag, knowledge}
 use Rattle.storeys.specs.declared.StoreyFinding.{StoreyFinding}
 use Rattle.storeys.specs.declared.row.Tally.{Tally}
+use Rattle.members.specs.declared.tables.Share.{Share}
+use Rattle.members.specs.Tables.{publishedShare}
 use Rattle.storeys.specs.Storey.{publishedRules, axialTotal, over, overShear, someOver, damaged, exceedsShare, knowledgeFault}
 use Rattle.checks.specs.Rows.{countFault, memberRowsFault}
 
@@ -48,8 +50,8 @@ tallyOf k met ms =
 
 -- totals that leave room for one member more
 pub record AddsNumbers (t : Tally) (nd : ℕ) (m : Member) : Type 0 where
-  pub axial-total : t .«axial_total» ≤ 1_000_000_000
-  pub over-shear : t .«over_shear» ≤ 10_000_000_000
+  pub axial-total : t .«axial_total» ≤ 2_000_000_000
+  pub over-shear : t .«over_shear» ≤ 2_000_000_000
   pub damage : t .damage ≤ 1_000_000
   pub ratio : nd ≤ ratioCap
   pub shear : m .case .shear ≤ 9_999_999
@@ -58,8 +60,8 @@ pub record AddsNumbers (t : Tally) (nd : ℕ) (m : Member) : Type 0 where
 pub record AddsUp (t : Tally) (k : ℕ) (m : Member) : Type 0 where
   pub knowledge-level : knowledge k ≡ true
   pub good : memberFault m ≡ 0
-  pub axial-total : t .«axial_total» ≤ 1_000_000_000
-  pub over-shear : t .«over_shear» ≤ 10_000_000_000
+  pub axial-total : t .«axial_total» ≤ 2_000_000_000
+  pub over-shear : t .«over_shear» ≤ 2_000_000_000
   pub damage : t .damage ≤ 1_000_000
 
 -- the members of a storey that the calls judge: good ones, 200 at most
@@ -71,17 +73,17 @@ pub record Rows (ms : List Member) : Type 0 where
 pub record Small (s : Storey) (rows : ℕ) (t : Tally) : Type 0 where
   pub shear : s .shear ≤ 9_999_999
   pub rows-most : rows ≤ 200
-  pub axial-total : t .«axial_total» ≤ 1_000_000_000
-  pub over-shear : t .«over_shear» ≤ 10_000_000_000
+  pub axial-total : t .«axial_total» ≤ 2_000_000_000
+  pub over-shear : t .«over_shear» ≤ 2_000_000_000
 
-abbrev pub riskyBy : ℕ → ℕ → Tally → Bool
-riskyBy shear c t =
-    exceedsShare (publishedRules .ends) (t .«axial_total») c (t .«over_shear») shear
-    || ((ltb (publishedRules .ends .r2 * c) (t .«axial_total») && t .some) || leb (7 * c) (t .damage))
+abbrev pub riskyBy : Share → ℕ → ℕ → Tally → Bool
+riskyBy share shear c t =
+    exceedsShare share (t .«axial_total») c (t .«over_shear») shear
+    || ((ltb (share .ends .r2 * c) (t .«axial_total») && t .some) || leb (7 * c) (t .damage))
 
 abbrev pub foundBy : Storey → ℕ → Bool → Tally → StoreyFinding
 foundBy s rows met t =
-    record { «axial_total» = t .«axial_total»; members = rows; «over_shear» = t .«over_shear»; shear = s .shear; risky = riskyBy (s .shear) rows t; «walls_suffice» = met }
+    record { «axial_total» = t .«axial_total»; members = rows; «over_shear» = t .«over_shear»; shear = s .shear; risky = riskyBy publishedShare (s .shear) rows t; «walls_suffice» = met }
 
 -- the refusals of the call on a storey before its members'
 abbrev pub headFault : ℕ → Storey → ℕ → ℕ

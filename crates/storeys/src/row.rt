@@ -1,8 +1,11 @@
 // One record, by value: what the loops over rows do with each.
+ghost use mathlib.Core.List.{[], _∷_};
 ghost use mathlib.Core.Path.{_≡_};
 ghost use Prim.Native.Nat.{_+_, _*_, _≤_};
-ghost use lib.Dec.{leb};
-ghost use Rattle.storeys.specs.Storey.{publishedRules, wallShear, exceedsShare};
+ghost use lib.Dec.{leb, ltb};
+ghost use Rattle.members.specs.Limits.{row, interp};
+ghost use Rattle.members.specs.Sizes.{SizedShare};
+ghost use Rattle.storeys.specs.Storey.{wallShear, allowedShare, exceedsShare};
 ghost use Rattle.storeys.specs.Tally.{weightOf, noTally, added, addedBy, AddsUp, AddsNumbers, headFault, foundBy, riskyBy, Small};
 use crate::StoreyAnswer;
 use crate::StoreyFinding;
@@ -11,9 +14,8 @@ use members::class::is_wall;
 use members::finding::MemberAnswer;
 use members::finding::judge_member;
 use members::finding::known;
-use members::tables::SHARE_FALL;
-use members::tables::SHARE_FROM;
-use members::tables::SHARE_TO;
+use members::limits::Fraction;
+use members::tables::Share;
 use records::Member;
 use records::Storey;
 use records::ranges::member_fault;
@@ -126,18 +128,55 @@ pub(crate) fn meets(s: Storey, walls: u64) -> bool
     2 * s.shear <= 5 * walls
 }
 
-// P / W exceeds the allowed share, of c members.
-fn exceeds_share(axial_total: u64, c: u64, over_shear: u64, shear: u64) -> bool
-    requires { ⌜ («axial_total» ≤ 1_000_000_000) × (c ≤ 200) × («over_shear» ≤ 10_000_000_000) × (shear ≤ 9_999_999) ⌝ }
-    ensures { λ r. ⌜ r ≡ exceedsShare (publishedRules .ends) «axial_total» c «over_shear» shear ⌝ }
+// The value at x: `first` up to the place `from`, `second` past the place `to`, linear between.
+fn linear(from: u64, to: u64, first: u64, second: u64, x: u64) -> Fraction
+    requires { ⌜ (from ≤ 40_000_000) × (to ≤ 40_000_000) × (first ≤ 100) × (second ≤ 100) ⌝ }
+    ensures { λ r. ⌜ (r ≡ interp (row from first) (row to second ∷ []) x) × (r .num ≤ 8_000_000_000) × (r .den ≤ 40_000_000) ⌝ }
 {
-    if axial_total <= SHARE_FROM * c {
-        return 7 * shear < 20 * over_shear;
+    if x <= from {
+        return Fraction { num: first, den: 1 };
     }
-    if SHARE_TO * c <= axial_total {
-        return 0 < over_shear;
+    if to < x {
+        return Fraction {
+            num: second,
+            den: 1,
+        };
     }
-    7 * shear * (SHARE_TO * c - axial_total) < SHARE_FALL * c * over_shear
+    Fraction {
+        num: first * (to - x) + second * (x - from),
+        den: to - from,
+    }
+}
+
+// The allowed share in hundredths, of c members.
+fn allowed_share(share: Share, axial_total: u64, c: u64) -> Fraction
+    requires { ⌜ SizedShare share × (c ≤ 200) ⌝ }
+    ensures { λ r. ⌜ (r ≡ allowedShare share «axial_total» c) × (r .num ≤ 8_000_000_000) × (r .den ≤ 40_000_000) ⌝ }
+{
+    linear(
+        share.ends.r1 * c,
+        share.ends.r2 * c,
+        share.shares.r1,
+        share.shares.r2,
+        axial_total,
+    )
+}
+
+// P / W exceeds the allowed share, of c members.
+fn exceeds_share(share: Share, axial_total: u64, c: u64, over_shear: u64, shear: u64) -> bool
+    requires { ⌜ SizedShare share × (c ≤ 200) × («over_shear» ≤ 2_000_000_000) × (shear ≤ 9_999_999) ⌝ }
+    ensures { λ r. ⌜ r ≡ exceedsShare share «axial_total» c «over_shear» shear ⌝ }
+{
+    let allowed = allowed_share(share, axial_total, c);
+    shear * allowed.num < 100 * over_shear * allowed.den
+}
+
+// The axial ratios of c members are above the second end.
+fn past_second_end(share: Share, axial_total: u64, c: u64) -> bool
+    requires { ⌜ SizedShare share × (c ≤ 200) ⌝ }
+    ensures { λ r. ⌜ r ≡ ltb (share .ends .r2 * c) «axial_total» ⌝ }
+{
+    share.ends.r2 * c < axial_total
 }
 
 // The storey's finding, from its totals.
@@ -151,25 +190,22 @@ pub(crate) fn finding_of(s: Storey, rows: usize, met: bool, t: Tally) -> StoreyF
         members: c,
         over_shear: t.over_shear,
         shear: s.shear,
-        risky: is_risky(s.shear, c, t),
+        risky: is_risky(Share::published(), s.shear, c, t),
         walls_suffice: met,
     }
 }
 
-fn is_risky(shear: u64, c: u64, t: Tally) -> bool
-    requires { ⌜ (t .«axial_total» ≤ 1_000_000_000) × (c ≤ 200) × (t .«over_shear» ≤ 10_000_000_000) × (shear ≤ 9_999_999) ⌝ }
-    ensures { λ r. ⌜ r ≡ riskyBy shear c t ⌝ }
+fn is_risky(share: Share, shear: u64, c: u64, t: Tally) -> bool
+    requires { ⌜ SizedShare share × (c ≤ 200) × (t .«over_shear» ≤ 2_000_000_000) × (shear ≤ 9_999_999) ⌝ }
+    ensures { λ r. ⌜ r ≡ riskyBy share shear c t ⌝ }
 {
-    if exceeds_share(t.axial_total, c, t.over_shear, shear) {
+    if exceeds_share(share, t.axial_total, c, t.over_shear, shear) {
         return true;
     }
     if 7 * c <= t.damage {
         return true;
     }
-    if t.axial_total <= SHARE_TO * c {
-        return false;
-    }
-    t.some
+    past_second_end(share, t.axial_total, c) && t.some
 }
 
 pub(crate) fn refused_storey(number: u64) -> StoreyJudgment

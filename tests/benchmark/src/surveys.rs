@@ -126,7 +126,7 @@ fn column(rng: &mut Rng, m: &mut Member, detailed: bool, demand: (u64, u64)) {
     }
     m.v_r = between(rng, 500, 3_000);
     m.v_e = share(rng, m.v_r, demand.0, demand.1);
-    axial(rng, m, 500, 9_500);
+    axial(rng, m, 5_000, 95_000);
 }
 
 /// With v near the rows of the tables, and V_r from one percentage of V_e to another.
@@ -137,15 +137,15 @@ fn wall(rng: &mut Rng, m: &mut Member, capacity: (u64, u64)) {
     m.s = 10 * between(rng, 10, 25);
     m.a_sh = between(rng, 57, 226);
     m.boundary_zone = rng.chance(50).into();
-    m.v_e = between(rng, 7_000, 15_000) * m.short_side * (m.long_side * 9 / 10) / 100_000_000 * m.f_ctm;
+    m.v_e = between(rng, 70_000, 150_000) * m.short_side * (m.long_side * 9 / 10) / 1_000_000_000 * m.f_ctm;
     m.v_r = share(rng, m.v_e, capacity.0, capacity.1);
-    axial(rng, m, 500, 3_000);
+    axial(rng, m, 5_000, 30_000);
 }
 
 /// The area, and axial forces with n from the one number to the other; some of the earthquake in tension.
 fn axial(rng: &mut Rng, m: &mut Member, least: u64, most: u64) {
     m.a_c = m.long_side * m.short_side;
-    let force = between(rng, least, most) * m.f_cm * m.a_c / 10_000_000;
+    let force = between(rng, least, most) * m.f_cm * m.a_c / 100_000_000;
     m.n_d = share(rng, force, 70, 100) as i64;
     m.n_k = if rng.chance(5) { -m.n_d / 4 } else { force as i64 };
 }

@@ -4,7 +4,7 @@ use benchmark::surveys::{survey, SIZES};
 use independent::{judge_member, judge_storey, MemberFinding, Survey};
 
 /// The limits of m that stand at rows of the tables.
-const AT_ROWS: [u64; 10] = [10_000, 12_500, 15_000, 25_000, 30_000, 40_000, 45_000, 50_000, 60_000, 70_000];
+const AT_ROWS: [u64; 10] = [100_000, 125_000, 150_000, 250_000, 300_000, 400_000, 450_000, 500_000, 600_000, 700_000];
 
 fn findings(s: &Survey) -> Vec<MemberFinding> {
     let k = s.header.knowledge;

@@ -308,11 +308,11 @@ pub fn worked_example() -> Survey {
     }
 }
 
-/// The sheet that document 01 prints for it.
+/// The sheet that document 01 prints for it, its ratios in hundred-thousandths.
 pub const WORKED_SHEET: &str = "\
-M           1           2       30000       25909        9000       12500           1
-M           2           2       20000       25909        9000       12500           0
-S           1        7500           2         200        1000           1
+M           1           2      300000      259090        9000       12500           1
+M           2           2      200000      259090        9000       12500           0
+S           1       75000           2         200        1000           1
 B           0           1
 ";
 
@@ -320,9 +320,9 @@ B           0           1
 pub fn plain_column() -> Member {
     Member {
         number: 1,
-        long_side: 400,
-        short_side: 250,
-        a_c: 100_000,
+        long_side: 1_250,
+        short_side: 800,
+        a_c: 1_000_000,
         f_cm: 100,
         f_ctm: 100,
         f_yw: 2_200,

@@ -27,8 +27,25 @@ pub fn all() -> Vec<Sample> {
     names(".survey").into_iter().map(sample).collect()
 }
 
+fn path(name: &str, ending: &str) -> PathBuf {
+    folder().join(format!("{name}{ending}"))
+}
+
+fn bytes(name: &str, ending: &str) -> Vec<u8> {
+    fs::read(path(name, ending)).unwrap_or_else(|e| panic!("{name}{ending}: {e}"))
+}
+
+/// The survey of a sample.
+pub fn survey(name: &str) -> Vec<u8> {
+    bytes(name, ".survey")
+}
+
+/// Puts the sheet of a sample beside its survey.
+pub fn write_sheet(name: &str, sheet: &[u8]) {
+    fs::write(path(name, ".sheet"), sheet).unwrap_or_else(|e| panic!("{name}.sheet: {e}"));
+}
+
 fn sample(name: String) -> Sample {
-    let bytes = |ending| fs::read(folder().join(format!("{name}{ending}"))).unwrap_or_else(|e| panic!("{name}{ending}: {e}"));
-    let (survey, sheet) = (bytes(".survey"), bytes(".sheet"));
+    let (survey, sheet) = (survey(&name), bytes(&name, ".sheet"));
     Sample { name, survey, sheet }
 }

@@ -198,7 +198,7 @@ fn verdict_on_what_cannot_be_read_or_written() {
 #[test]
 fn verdict_with_another_version_of_the_library() {
     let other = own("other_version.c");
-    fs::write(&other, "unsigned long __wrap_llunareth_version(void) { return 4; }\n").expect("written");
+    fs::write(&other, "unsigned long __wrap_llunareth_version(void) { return 5; }\n").expect("written");
     let mut compiler = compiler("gcc", "-std=c99");
     let program = build(compiler.arg(other).arg("-Wl,--wrap=llunareth_version"), "bindings/c/verdict.c", "verdict_other");
     let output = Command::new(program).arg(samples::folder().join("walls.survey")).output().expect("verdict starts");
@@ -213,7 +213,7 @@ fn verdict_with_another_version_of_the_library() {
 fn the_scales_are_those_of_both_programs() {
     let (ratio, rotation) = (llunareth::RATIO_SCALE, llunareth::ROTATION_SCALE);
     let force = 1_000 * llunareth::FORCE_SCALE;
-    let column = Member { n_d: force as i64, m_e: 100, m_p: 100, ..plain_column() };
+    let column = Member { a_c: 100_000, n_d: force as i64, m_e: 100, m_p: 100, ..plain_column() };
     let numbers = member_numbers(&column).expect("a good member");
     assert_eq!(numbers[17], llunareth::ZERO_FORCE + force);
     let found = llunareth::judge_member(100, false, &numbers.into()).expect("accepted");

@@ -150,7 +150,7 @@ fn seven_conditions_cannot_be_left_out() {
     let hooked = |f_cm| single(100, 1_000, move |m| (m.hooks, m.m_e, m.v_r, m.f_cm) = (1, 500, 1_000, f_cm));
     cleared(&hooked(100), &hooked(99));
     // no strengthened column C unless its partner is
-    let cut = |v_r| single(100, 1_000, move |m| (m.strengthened, m.n_k, m.m_e, m.v_r) = (1, 7_000, 80, v_r));
+    let cut = |v_r| single(100, 1_000, move |m| (m.strengthened, m.n_k, m.m_e, m.v_r) = (1, 70_000, 80, v_r));
     cleared(&cut(100), &cut(90));
     // no rotation lower
     cleared(&single(100, 1_000, |m| m.rotation = 99_999), &single(100, 1_000, |m| m.rotation = 0));
@@ -158,7 +158,7 @@ fn seven_conditions_cannot_be_left_out() {
     let classed = |v_r| {
         single(100, 1_000, move |m| {
             wall(m);
-            (m.n_k, m.m_e, m.v, m.drift, m.v_r) = (1_000, 470, 1_000, 7_500, v_r);
+            (m.n_k, m.m_e, m.v, m.drift, m.v_r) = (10_000, 470, 1_000, 7_500, v_r);
         })
     };
     cleared(&classed(901), &classed(900));

@@ -1,4 +1,4 @@
-//! Edges (a) to (j) of document 01, run through the proved calls.
+//! Edges (a) to (j) of document 01, with ratios in hundred-thousandths, run through the proved calls.
 use compare::{judge_building, judge_member, judge_storey, member_numbers, member_rows, plain_column};
 use independent::{Header, Member, Storey};
 
@@ -17,32 +17,32 @@ fn limits(k: u64, m: &Member) -> (u8, u64, u64) {
 
 #[test]
 fn a_column_a() {
-    let m = member(|m| (m.hooks, m.n_k, m.v_e) = (1, 3_500, 60));
-    assert_eq!(limits(100, &m), (1, 45_000, 27_500));
+    let m = member(|m| (m.hooks, m.n_k, m.v_e) = (1, 35_000, 60));
+    assert_eq!(limits(100, &m), (1, 450_000, 27_500));
 }
 
 #[test]
 fn b_column_b() {
-    let m = member(|m| (m.n_k, m.v_e) = (3_500, 60));
-    assert_eq!(limits(100, &m), (2, 31_875, 15_625));
+    let m = member(|m| (m.n_k, m.v_e) = (35_000, 60));
+    assert_eq!(limits(100, &m), (2, 318_750, 15_625));
 }
 
 #[test]
 fn c_column_b_strengthened() {
-    let m = member(|m| (m.n_k, m.v_e, m.strengthened) = (3_500, 60, 1));
-    assert_eq!(limits(100, &m), (2, 23_906, 11_718));
+    let m = member(|m| (m.n_k, m.v_e, m.strengthened) = (35_000, 60, 1));
+    assert_eq!(limits(100, &m), (2, 239_062, 11_718));
 }
 
 #[test]
 fn d_column_c() {
-    let m = member(|m| (m.n_k, m.v_e) = (8_500, 200));
-    assert_eq!(limits(100, &m), (3, 10_000, 2_500));
+    let m = member(|m| (m.n_k, m.v_e) = (85_000, 200));
+    assert_eq!(limits(100, &m), (3, 100_000, 2_500));
 }
 
 #[test]
 fn e_wall_a_with_zone() {
-    let m = member(|m| (m.long_side, m.short_side, m.n_k, m.v_e, m.v_r) = (1_000, 100, 1_750, 1_100, 9_999));
-    assert_eq!(limits(100, &m), (4, 43_750, 18_750));
+    let m = member(|m| (m.long_side, m.short_side, m.n_k, m.v_e, m.v_r) = (1_000, 100, 17_500, 1_100, 9_999));
+    assert_eq!(limits(100, &m), (4, 437_500, 18_750));
 }
 
 #[test]
@@ -65,16 +65,16 @@ fn loaded(number: u64, n_d: i64, m_e: u64, v: u64, damage_kind: u64) -> Member {
 
 #[test]
 fn g_the_share_between_its_ends() {
-    let pair = |v| storey(&[loaded(1, 3_500, 1_000, v, 0), loaded(2, 4_000, 0, 500, 0)]);
-    assert_eq!(pair(175), (7_500, 2, 175, false));
-    assert_eq!(pair(176), (7_500, 2, 176, true));
+    let pair = |v| storey(&[loaded(1, 35_000, 1_000, v, 0), loaded(2, 40_000, 0, 500, 0)]);
+    assert_eq!(pair(175), (75_000, 2, 175, false));
+    assert_eq!(pair(176), (75_000, 2, 176, true));
 }
 
 #[test]
 fn h_the_axial_bound() {
-    let pair = |n_d| storey(&[loaded(1, n_d, 1_000, 0, 0), loaded(2, 6_500, 0, 500, 0)]);
-    assert_eq!(pair(6_500), (13_000, 2, 0, false));
-    assert_eq!(pair(6_501), (13_001, 2, 0, true));
+    let pair = |n_d| storey(&[loaded(1, n_d, 1_000, 0, 0), loaded(2, 65_000, 0, 500, 0)]);
+    assert_eq!(pair(65_000), (130_000, 2, 0, false));
+    assert_eq!(pair(65_001), (130_001, 2, 0, true));
 }
 
 #[test]

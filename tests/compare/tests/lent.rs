@@ -73,7 +73,7 @@ fn a_member_judged_and_refused() {
     assert_eq!((judge(95, member), judge(100, damaged), judge(100, narrow), judge(100, member)), (3, 3, 4, 0));
     let mut out = marks(9);
     raw::judge_member(100, false, &member_numbers(&member).expect("stored numbers"), &mut out);
-    assert_eq!(out, [&[2, 30_000, 25_909, 9_000, 12_500, 1, 3_500], &marks(9)[7..]].concat());
+    assert_eq!(out, [&[2, 300_000, 259_090, 9_000, 12_500, 1, 35_000], &marks(9)[7..]].concat());
 }
 
 // ---- rows ----
@@ -104,7 +104,7 @@ fn a_storey_judged_and_refused() {
         assert_eq!(assert_out_left(raw::STOREY_VALUES, |out| raw::judge_storey(95, &storey, &rows, out)), if number == 1 { 1 } else { 3 });
         let mut out = marks(8);
         if raw::judge_storey(100, &storey, &rows, &mut out) == 0 {
-            assert_eq!(out, [&[7_500, 2, 200, 1_000, 1, 0], &marks(8)[6..]].concat());
+            assert_eq!(out, [&[75_000, 2, 200, 1_000, 1, 0], &marks(8)[6..]].concat());
         }
     }
 }

@@ -101,6 +101,11 @@ fn limits(line: &[u64]) -> (u64, u64) {
     (line[3], line[5])
 }
 
+/// Whether a limit rounded down can be 3/4 of one that is printed rounded down.
+fn three_quarters(printed: u64, reduced: u64) -> bool {
+    3 * printed / 4 <= reduced && 4 * reduced < 3 * (printed + 1)
+}
+
 #[test]
 fn plain_columns_keep_their_limits_beside_a_strengthened_one() {
     let sample = named("strengthened-column-first");
@@ -112,7 +117,7 @@ fn plain_columns_keep_their_limits_beside_a_strengthened_one() {
         for (m, line) in plain {
             let alone = judge_member(k, false, &m).expect("a good member");
             assert_eq!(limits(&line), (alone.m_limit, alone.rotation_limit));
-            assert_eq!((line[3] * 3 / 4, line[5] * 3 / 4), reduced);
+            assert!(three_quarters(line[3], reduced.0) && three_quarters(line[5], reduced.1), "{line:?}, reduced to {reduced:?}");
             past_reduced += u32::from(line[2] > reduced.0 && line[4] > reduced.1);
         }
     }

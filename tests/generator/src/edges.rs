@@ -89,7 +89,11 @@ fn column(rng: &mut Rng, k: u64) -> Member {
     concrete(rng, &mut m);
     hoops(rng, &mut m);
     column_shear(rng, k, &mut m);
-    axial_forces(rng, &mut m, &[1_000, 6_000, 7_000, 10_000, 3_500, 8_500]);
+    axial_forces(
+        rng,
+        &mut m,
+        &[10_000, 60_000, 70_000, 100_000, 35_000, 85_000],
+    );
     m
 }
 
@@ -114,19 +118,20 @@ fn concrete(rng: &mut Rng, m: &mut Member) {
     let (f_cm, a_c) = match rng.below(20) {
         0 => (rng.between(1, 10), rng.between(1, 100)),
         1..=8 => rng.pick(&[
-            (100, 100_000),
-            (200, 50_000),
-            (250, 40_000),
-            (125, 80_000),
-            (50, 200_000),
-            (100, 90_000),
-            (160, 125_000),
-            (300, 120_000),
+            (100, 1_000_000),
+            (200, 500_000),
+            (250, 400_000),
+            (125, 800_000),
+            (50, 2_000_000),
+            (100, 900_000),
+            (160, 1_250_000),
+            (300, 1_200_000),
             (250, 160_000),
+            (100, 90_000),
         ]),
         _ => {
             let f_cm = rng.between(40, 600);
-            (f_cm, rng.between(10_000_000 / f_cm + 1, 3_000_000))
+            (f_cm, rng.between(100_000_000 / f_cm + 1, 9_999_999))
         }
     };
     m.f_cm = f_cm as u64;
@@ -178,7 +183,7 @@ fn hoop_condition(rng: &mut Rng, m: &mut Member) {
     m.b_k = b_k as u64;
     m.a_sh = (p * s) as u64;
     m.f_yw = (3 * b_k) as u64;
-    m.a_c = m.a_c.max(10_000_000 / m.f_cm + 1);
+    m.a_c = m.a_c.max(100_000_000 / m.f_cm + 1);
     match rng.below(12) {
         0 => m.f_yw += 1,
         1 => m.f_yw -= 1,
@@ -219,7 +224,7 @@ fn wall(rng: &mut Rng, k: u64) -> Member {
     wall_sides(rng, &mut m);
     concrete(rng, &mut m);
     wall_shear(rng, k, &mut m);
-    axial_forces(rng, &mut m, &[1_000, 2_500, 1_750]);
+    axial_forces(rng, &mut m, &[10_000, 25_000, 17_500]);
     m
 }
 
@@ -250,21 +255,21 @@ fn wall_sides(rng: &mut Rng, m: &mut Member) {
 fn wall_shear(rng: &mut Rng, k: u64, m: &mut Member) {
     let short = m.short_side as i128;
     let (d, f_ctm) = match rng.below(10) {
-        0..=3 if 1_000_000 % short == 0 => (1_000_000 / short * rng.between(1, 3), 100),
+        0..=3 if 1_000_000 % short == 0 => (1_000_000 / short * rng.between(1, 3), 1_000),
         9 => (rng.spread(1, 99_999), rng.spread(1, 9_999)),
-        _ => (rng.between(1_000, 10_000), rng.between(80, 400)),
+        _ => (rng.between(1_000, 10_000), rng.between(80, 4_000)),
     };
     let d = d.clamp(1, 99_999);
     let area = short * d * f_ctm;
     let target = match rng.below(12) {
-        0..=3 => rng.beside(9_000),
-        4..=6 => rng.beside(13_000),
-        7 => rng.beside(11_000),
-        8 => rng.pick(&[999_998, 999_999, 1_000_000, 1_000_001]),
+        0..=3 => rng.beside(90_000),
+        4..=6 => rng.beside(130_000),
+        7 => rng.beside(110_000),
+        8 => rng.pick(&[9_999_998, 9_999_999, 10_000_000, 10_000_001]),
         9 => 0,
-        _ => rng.between(0, 16_000),
+        _ => rng.between(0, 160_000),
     };
-    let v_e = (target * area / 100_000_000).clamp(0, 9_999_999);
+    let v_e = (target * area / 1_000_000_000).clamp(0, 9_999_999);
     let even = 100 * v_e / k as i128;
     let v_r = match rng.below(12) {
         0 => even,
@@ -295,11 +300,11 @@ fn axial_force(rng: &mut Rng, m: &Member, rows: &[i128]) -> i64 {
         1 => -(rng.below(999_999) as i64),
         2 => rng.pick(&[1, 9_999_999]),
         3 => {
-            let target = rng.pick(&[999_998, 999_999, 1_000_000]);
+            let target = rng.pick(&[9_999_998, 9_999_999, 10_000_000]);
             force_for(m, target)
         }
         4..=7 => {
-            let target = rng.between(0, 11_000);
+            let target = rng.between(0, 110_000);
             force_for(m, target)
         }
         _ => {
@@ -312,7 +317,7 @@ fn axial_force(rng: &mut Rng, m: &Member, rows: &[i128]) -> i64 {
 
 /// The largest force whose axial ratio does not pass the target.
 pub(crate) fn force_for(m: &Member, target: i128) -> i64 {
-    let force = target * m.f_cm as i128 * m.a_c as i128 / 10_000_000;
+    let force = target * m.f_cm as i128 * m.a_c as i128 / 100_000_000;
     force.clamp(-999_999, 9_999_999) as i64
 }
 
@@ -339,14 +344,14 @@ fn demands(rng: &mut Rng, k: u64, m: &mut Member) {
 
 fn moment(rng: &mut Rng, k: u64, m: &mut Member, limit: i128) {
     let m_p = match rng.below(4) {
-        0 => 10_000,
-        1 => 100_000,
-        _ => rng.between(11_112, 140_000),
+        0 => 100_000,
+        1 => 1_000_000,
+        _ => rng.between(111_112, 1_200_000),
     };
     let target = match rng.below(10) {
         0..=6 => rng.beside(limit),
-        7 => rng.pick(&[999_998, 999_999, 1_000_000]),
-        8 => rng.between(0, 80_000),
+        7 => rng.pick(&[9_999_998, 9_999_999, 10_000_000]),
+        8 => rng.between(0, 800_000),
         _ => {
             m.m_p = rng.spread(1, 9_999_999) as u64;
             m.m_e = rng.spread(0, 9_999_999) as u64;
@@ -354,7 +359,7 @@ fn moment(rng: &mut Rng, k: u64, m: &mut Member, limit: i128) {
         }
     };
     // The largest moment whose ratio does not pass the target.
-    let m_e = target * k as i128 * m_p / 1_000_000;
+    let m_e = target * k as i128 * m_p / 10_000_000;
     m.m_p = m_p as u64;
     m.m_e = m_e.clamp(0, 9_999_999) as u64;
 }

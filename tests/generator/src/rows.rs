@@ -2,11 +2,11 @@
 
 use independent::{judge_member, Header, Member, Storey, Survey};
 
-const COLUMN_AXIAL: [u64; 4] = [1_000, 6_000, 7_000, 10_000];
-const COLUMN_C_AXIAL: [u64; 2] = [7_000, 10_000];
+const COLUMN_AXIAL: [u64; 4] = [10_000, 60_000, 70_000, 100_000];
+const COLUMN_C_AXIAL: [u64; 2] = [70_000, 100_000];
 const HOOPS: [u64; 2] = [500, 6_000];
-const WALL_AXIAL: [u64; 2] = [1_000, 2_500];
-const STRESS: [u64; 2] = [9_000, 13_000];
+const WALL_AXIAL: [u64; 2] = [10_000, 25_000];
+const STRESS: [u64; 2] = [90_000, 130_000];
 
 /// Strengthened or not, and the reduction factor.
 const MARKS: [(u64, u64); 4] = [(0, 100), (1, 100), (0, 50), (1, 33)];
@@ -72,20 +72,20 @@ fn pairs(rows: &[u64], others: &[u64]) -> Vec<(u64, u64)> {
 fn column(n: u64, hoops: u64) -> Member {
     Member {
         number: 1,
-        long_side: 400,
-        short_side: 250,
-        a_c: 100_000,
+        long_side: 1_250,
+        short_side: 800,
+        a_c: 1_000_000,
         f_cm: 100,
         f_ctm: 100,
         f_yw: 2_200,
-        d: 350,
+        d: 1_200,
         h_w: 3_000,
         s: 1_000,
         b_k: 1_000,
         a_sh: hoops,
         n_d: n as i64,
         n_k: n as i64,
-        m_p: 10_000,
+        m_p: 100_000,
         v_r: 10,
         v: 1,
         ..Member::default()
@@ -120,9 +120,10 @@ fn wall(n: u64, stress: u64) -> Member {
     Member {
         long_side: 500,
         short_side: 100,
+        f_ctm: 1_000,
         d: 10_000,
         v_e: stress,
-        v_r: 20_000,
+        v_r: 200_000,
         ..column(n, 0)
     }
 }
@@ -143,7 +144,7 @@ fn walls_a() -> Vec<Member> {
 fn walls_b() -> Vec<Member> {
     let low = |stress| Member {
         h_w: 999,
-        ..wall(1_000, stress)
+        ..wall(10_000, stress)
     };
     beside(&STRESS).into_iter().map(low).collect()
 }

@@ -202,13 +202,13 @@ fn damage_edge(rng: &mut Rng, members: &mut [Member]) {
     }
 }
 
-/// Σ at or beside 1,000 c, 6,500 c or half way, or anywhere.
+/// Σ at or beside 10,000 c, 65,000 c or half way, or anywhere.
 fn sum_edge(rng: &mut Rng, members: &mut [Member]) {
     let each = match rng.below(10) {
-        0 | 1 | 2 => 1_000,
-        3 | 4 | 5 => 6_500,
-        6 => 3_750,
-        7 => rng.between(0, 8_000),
+        0 | 1 | 2 => 10_000,
+        3 | 4 | 5 => 65_000,
+        6 => 37_500,
+        7 => rng.between(0, 80_000),
         _ => return,
     };
     let total = rng.beside(each * members.len() as i128);
@@ -276,8 +276,8 @@ fn share_edge(rng: &mut Rng, k: u64, storey: &Storey, members: &mut [Member]) {
         return;
     }
     let (c, sum) = (found.c as i128, found.sum as i128);
-    let share = (6_500 * c - sum).clamp(0, 5_500 * c);
-    let most = 7 * share * storey.shear as i128 / (110_000 * c);
+    let share = (65_000 * c - sum).clamp(0, 55_000 * c);
+    let most = 7 * share * storey.shear as i128 / (1_100_000 * c);
     let target = rng.beside(most);
     let chosen = over_columns[rng.index(over_columns.len())];
     let mut others = found.p as i128 - members[chosen].v as i128;

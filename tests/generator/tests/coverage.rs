@@ -272,7 +272,7 @@ impl Tally {
 }
 
 fn up(a: i128, b: i128) -> i128 {
-    ((a + b - 1) / b).min(999_999)
+    ((a + b - 1) / b).min(9_999_999)
 }
 
 fn tally_member(t: &mut Tally, k: u64, share: bool, m: &Member) {
@@ -291,17 +291,18 @@ fn tally_member(t: &mut Tally, k: u64, share: bool, m: &Member) {
     }
     // Axial load at the rows of the class.
     let rows: &[i128] = match f.class {
-        1 | 2 => &[1_000, 6_000, 7_000, 10_000],
-        3 => &[7_000, 10_000],
-        4 => &[1_000, 2_500],
+        1 | 2 => &[10_000, 60_000, 70_000, 100_000],
+        3 => &[70_000, 100_000],
+        4 => &[10_000, 25_000],
         _ => &[],
     };
     for &row in rows {
         t.around(&format!("class {} n", f.class), g(f.n), row);
     }
-    t.note("n capped", f.n == 999_999);
-    t.note("n_D capped", f.n_d == 999_999);
-    t.note("n 999,998", f.n == 999_998);
+    t.note("n capped", f.n == 9_999_999);
+    t.note("n_D capped", f.n_d == 9_999_999);
+    t.note("n 9,999,998", f.n == 9_999_998);
+    t.note("n_D 9,999,998", f.n_d == 9_999_998);
     t.note("N_K tension", m.n_k < 0);
     t.note("N_K zero", m.n_k == 0);
     t.note("N_D tension", m.n_d < 0);
@@ -317,8 +318,8 @@ fn tally_member(t: &mut Tally, k: u64, share: bool, m: &Member) {
     };
     by_limit(t, "m", f.m, f.m_limit);
     by_limit(t, "rotation", f.rotation, f.rotation_limit);
-    t.note("m capped", f.m == 999_999);
-    t.note("m 999,998", f.m == 999_998);
+    t.note("m capped", f.m == 9_999_999);
+    t.note("m 9,999,998", f.m == 9_999_998);
     t.note("factor 0", m.factor == 0);
     t.note("factor 100", m.factor == 100);
     t.note("factor 0 and rotation 0", m.factor == 0 && m.rotation == 0);
@@ -379,11 +380,12 @@ fn tally_member(t: &mut Tally, k: u64, share: bool, m: &Member) {
             &format!("k {} V_e just above V_r", k),
             100 * v_e > k * v_r && k * v_r >= 100 * v_e - k,
         );
-        let v = up(100_000_000 * v_e, short * g(m.d) * g(m.f_ctm));
-        for row in [9_000, 13_000] {
+        let v = up(1_000_000_000 * v_e, short * g(m.d) * g(m.f_ctm));
+        for row in [90_000, 130_000] {
             t.around(&format!("class {} v", f.class), v, row);
         }
-        t.note("v capped", v == 999_999);
+        t.note("v capped", v == 9_999_999);
+        t.note("v 9,999,998", v == 9_999_998);
         t.around("drift", g(m.drift), 7_500);
     }
     for (i, value) in m.fields().into_iter().enumerate() {
@@ -396,8 +398,8 @@ fn tally_member(t: &mut Tally, k: u64, share: bool, m: &Member) {
 fn tally_storey(t: &mut Tally, k: u64, s: &Storey, members: &[Member]) {
     let f = judge_storey(k, s, members).unwrap();
     let (c, sum, p, w) = (f.c as i128, f.sum as i128, f.p as i128, f.w as i128);
-    t.around("Σ - 1,000 c", sum - 1_000 * c, 0);
-    t.around("Σ - 6,500 c", sum - 6_500 * c, 0);
+    t.around("Σ - 10,000 c", sum - 10_000 * c, 0);
+    t.around("Σ - 65,000 c", sum - 65_000 * c, 0);
     let mut walls = 0;
     let mut damage = 0;
     let mut some_over = false;
@@ -415,11 +417,11 @@ fn tally_storey(t: &mut Tally, k: u64, s: &Storey, members: &[Member]) {
         walls > 0 && 5 * walls < 2 * w && 5 * walls + 5 >= 2 * w,
     );
     t.note("0.40 just met", 5 * walls > 2 * w && 5 * walls - 5 <= 2 * w);
-    let share = (6_500 * c - sum).clamp(0, 5_500 * c);
-    let (left, right) = (110_000 * c * p, 7 * share * w);
-    let step = 110_000 * c;
-    let between = sum > 1_000 * c && sum < 6_500 * c;
-    for (name, at) in [("low", sum <= 1_000 * c), ("between", between)] {
+    let share = (65_000 * c - sum).clamp(0, 55_000 * c);
+    let (left, right) = (1_100_000 * c * p, 7 * share * w);
+    let step = 1_100_000 * c;
+    let between = sum > 10_000 * c && sum < 65_000 * c;
+    for (name, at) in [("low", sum <= 10_000 * c), ("between", between)] {
         t.note(
             &format!("{} P at the share", name),
             at && some_over && left == right,
@@ -434,15 +436,15 @@ fn tally_storey(t: &mut Tally, k: u64, s: &Storey, members: &[Member]) {
         );
     }
     t.note(
-        "Σ at 6,500 c, one over, P 0",
-        sum == 6_500 * c && some_over && p == 0,
+        "Σ at 65,000 c, one over, P 0",
+        sum == 65_000 * c && some_over && p == 0,
     );
-    t.note("Σ at 6,500 c, P 1", sum == 6_500 * c && p == 1);
+    t.note("Σ at 65,000 c, P 1", sum == 65_000 * c && p == 1);
     t.note(
-        "Σ past 6,500 c, one over, P 0",
-        sum == 6_500 * c + 1 && some_over && p == 0,
+        "Σ past 65,000 c, one over, P 0",
+        sum == 65_000 * c + 1 && some_over && p == 0,
     );
-    t.note("Σ past 6,500 c, none over", sum > 6_500 * c && !some_over);
+    t.note("Σ past 65,000 c, none over", sum > 65_000 * c && !some_over);
     t.note("damage at threshold", damage == 7 * c as u64);
     t.note(
         "damage just below",

@@ -3,18 +3,35 @@
 use crate::fraction::Fraction;
 use crate::records::{check_member_call, Member, Refusal};
 
-/// Ratios are capped here.
-const CAP: i128 = 999_999;
+/// A grid that ratios are counted on.
+struct Grid {
+    /// So many steps are one.
+    steps: i128,
+    /// The largest number on it.
+    cap: i128,
+}
+
+/// For n, n_D, m and v, and so for the limits of m: hundred-thousandths.
+const RATIO_GRID: Grid = Grid {
+    steps: 100_000,
+    cap: 9_999_999,
+};
+
+/// For ρ: millionths.
+const HOOP_GRID: Grid = Grid {
+    steps: 1_000_000,
+    cap: 999_999,
+};
 
 #[derive(Clone, Copy, Debug, PartialEq, Eq)]
 pub struct MemberFinding {
     /// 1 to 3 columns A to C, 4 and 5 walls A and B.
     pub class: u8,
-    /// From N_D, ten-thousandths.
+    /// From N_D, hundred-thousandths.
     pub n_d: u64,
-    /// From N_K, ten-thousandths.
+    /// From N_K, hundred-thousandths.
     pub n: u64,
-    /// Ten-thousandths.
+    /// Hundred-thousandths.
     pub m: u64,
     pub m_limit: u64,
     /// Microradians.
@@ -112,160 +129,163 @@ fn shear_demand_below_capacity(k: u64, m: &Member) -> bool {
 
 // ---- ratios ----
 
-fn up(numerator: i128, denominator: i128) -> i128 {
-    Fraction::new(numerator, denominator).rounded_up().min(CAP)
+impl Grid {
+    /// The ratio counted on this grid, not yet rounded.
+    fn counted(&self, ratio: Fraction) -> Fraction {
+        ratio.times(Fraction::whole(self.steps))
+    }
+
+    fn up(&self, ratio: Fraction) -> i128 {
+        self.counted(ratio).rounded_up().min(self.cap)
+    }
+
+    fn down(&self, ratio: Fraction) -> i128 {
+        self.counted(ratio).rounded_down().min(self.cap)
+    }
 }
 
-fn down(numerator: i128, denominator: i128) -> i128 {
-    Fraction::new(numerator, denominator)
-        .rounded_down()
-        .min(CAP)
-}
-
-/// n from N_K, n_D from N_D; ten-thousandths.
+/// n from N_K, n_D from N_D. 0.1 kN over 0.1 MPa x mm² is 1,000.
 fn axial_ratio(force: i64, m: &Member) -> i128 {
     if force <= 0 {
         return 0;
     }
-    up(10_000_000 * force as i128, m.f_cm as i128 * m.a_c as i128)
+    RATIO_GRID.up(Fraction::new(
+        1_000 * force as i128,
+        m.f_cm as i128 * m.a_c as i128,
+    ))
 }
 
-/// m, ten-thousandths.
+/// m. k counts hundredths.
 fn moment_ratio(k: u64, m: &Member) -> i128 {
-    up(1_000_000 * m.m_e as i128, k as i128 * m.m_p as i128)
+    RATIO_GRID.up(Fraction::new(
+        100 * m.m_e as i128,
+        k as i128 * m.m_p as i128,
+    ))
 }
 
-/// v, ten-thousandths.
+/// v. 0.1 kN over mm x mm x 0.01 MPa is 10,000.
 fn wall_stress(m: &Member) -> i128 {
-    up(
-        100_000_000 * m.v_e as i128,
+    RATIO_GRID.up(Fraction::new(
+        10_000 * m.v_e as i128,
         m.short_side as i128 * m.d as i128 * m.f_ctm as i128,
-    )
+    ))
 }
 
-/// ρ, millionths.
+/// ρ.
 fn hoop_ratio(m: &Member) -> i128 {
-    down(1_000_000 * m.a_sh as i128, m.s as i128 * m.b_k as i128)
+    HOOP_GRID.down(Fraction::new(m.a_sh as i128, m.s as i128 * m.b_k as i128))
 }
 
 // ---- tables ----
 
-/// A row of a table: where it stands, the limit of m, the limit of rotation.
-type Row = (i128, i128, i128);
+/// Where the rows of the columns stand, by n.
+const COLUMN_N: [i128; 4] = [10_000, 60_000, 70_000, 100_000];
 
-/// By n.
-const COLUMN_A_TABLE: [Row; 4] = [
-    (1_000, 60_000, 40_000),
-    (6_000, 30_000, 15_000),
-    (7_000, 10_000, 5_000),
-    (10_000, 10_000, 0),
+/// Class C has the last two of them.
+const COLUMN_C_N: [i128; 2] = [COLUMN_N[2], COLUMN_N[3]];
+
+/// Where the rows of column B stand, by ρ.
+const COLUMN_B_RHO: [i128; 2] = [500, 6_000];
+
+/// Where the rows of wall A stand, by n.
+const WALL_A_N: [i128; 2] = [10_000, 25_000];
+
+/// Where the rows of walls stand, by v.
+const WALL_V: [i128; 2] = [90_000, 130_000];
+
+/// The limit of m, hundred-thousandths, and the limit of rotation, microradians.
+type Limits = (i128, i128);
+
+/// At each n.
+const COLUMN_A_LIMITS: [Limits; 4] = [
+    (600_000, 40_000),
+    (300_000, 15_000),
+    (100_000, 5_000),
+    (100_000, 0),
 ];
 
-/// By n, at ρ 500.
-const COLUMN_B_FEW_HOOPS: [Row; 4] = [
-    (1_000, 25_000, 12_500),
-    (6_000, 12_500, 5_000),
-    (7_000, 10_000, 5_000),
-    (10_000, 10_000, 0),
+/// At each ρ: at each n.
+const COLUMN_B_LIMITS: [[Limits; 4]; 2] = [
+    [
+        (250_000, 12_500),
+        (125_000, 5_000),
+        (100_000, 5_000),
+        (100_000, 0),
+    ],
+    [
+        (600_000, 35_000),
+        (300_000, 10_000),
+        (100_000, 5_000),
+        (100_000, 0),
+    ],
 ];
 
-/// By n, at ρ 6,000.
-const COLUMN_B_MANY_HOOPS: [Row; 4] = [
-    (1_000, 60_000, 35_000),
-    (6_000, 30_000, 10_000),
-    (7_000, 10_000, 5_000),
-    (10_000, 10_000, 0),
+/// At each n of class C.
+const COLUMN_C_LIMITS: [Limits; 2] = [(100_000, 5_000), (100_000, 0)];
+
+/// With boundary zone, at each n: at each v.
+const WALL_A_ZONE_LIMITS: [[Limits; 2]; 2] = [
+    [(700_000, 30_000), (400_000, 15_000)],
+    [(400_000, 20_000), (250_000, 10_000)],
 ];
 
-/// By n.
-const COLUMN_C_TABLE: [Row; 2] = [(7_000, 10_000, 5_000), (10_000, 10_000, 0)];
+/// Without boundary zone, at each n: at each v.
+const WALL_A_PLAIN_LIMITS: [[Limits; 2]; 2] = [
+    [(450_000, 15_000), (250_000, 7_500)],
+    [(250_000, 10_000), (150_000, 5_000)],
+];
 
-/// By n, with boundary zone, at v 9,000.
-const WALL_A_ZONE_LOW_STRESS: [Row; 2] = [(1_000, 70_000, 30_000), (2_500, 40_000, 20_000)];
-
-/// By n, with boundary zone, at v 13,000.
-const WALL_A_ZONE_HIGH_STRESS: [Row; 2] = [(1_000, 40_000, 15_000), (2_500, 25_000, 10_000)];
-
-/// By n, without boundary zone, at v 9,000.
-const WALL_A_PLAIN_LOW_STRESS: [Row; 2] = [(1_000, 45_000, 15_000), (2_500, 25_000, 10_000)];
-
-/// By n, without boundary zone, at v 13,000.
-const WALL_A_PLAIN_HIGH_STRESS: [Row; 2] = [(1_000, 25_000, 7_500), (2_500, 15_000, 5_000)];
-
-/// By v.
-const WALL_B_TABLE: [Row; 2] = [(9_000, 50_000, 20_000), (13_000, 25_000, 10_000)];
+/// At each v.
+const WALL_B_LIMITS: [Limits; 2] = [(500_000, 20_000), (250_000, 10_000)];
 
 /// A limit of m and a limit of rotation, not yet rounded.
 type Pair = (Fraction, Fraction);
 
-/// On the straight line through (x0, y0) and (x1, y1).
-fn on_line(x: i128, x0: i128, y0: Fraction, x1: i128, y1: Fraction) -> Fraction {
-    let part = Fraction::new(x - x0, x1 - x0);
-    y0.plus(y1.minus(y0).times(part))
-}
-
-/// Linear between rows and constant outside.
-fn in_table(table: &[Row], x: i128) -> Pair {
-    let first = table[0];
-    let last = table[table.len() - 1];
-    if x <= first.0 {
-        return (Fraction::whole(first.1), Fraction::whole(first.2));
+/// Linear between the places and constant outside.
+fn linear<const N: usize>(places: &[i128; N], values: &[Pair; N], x: i128) -> Pair {
+    if x <= places[0] {
+        return values[0];
     }
-    if x >= last.0 {
-        return (Fraction::whole(last.1), Fraction::whole(last.2));
+    if x >= places[N - 1] {
+        return values[N - 1];
     }
     let mut i = 0;
-    while x > table[i + 1].0 {
+    while x > places[i + 1] {
         i += 1;
     }
-    let (a, b) = (table[i], table[i + 1]);
-    (
-        on_line(x, a.0, Fraction::whole(a.1), b.0, Fraction::whole(b.1)),
-        on_line(x, a.0, Fraction::whole(a.2), b.0, Fraction::whole(b.2)),
-    )
+    let part = Fraction::new(x - places[i], places[i + 1] - places[i]);
+    let on_line = |from: Fraction, to: Fraction| from.plus(to.minus(from).times(part));
+    let (a, b) = (values[i], values[i + 1]);
+    (on_line(a.0, b.0), on_line(a.1, b.1))
 }
 
-/// Linear between the pair at y0 and the pair at y1, constant outside.
-fn between(y: i128, y0: i128, at_y0: Pair, y1: i128, at_y1: Pair) -> Pair {
-    if y <= y0 {
-        return at_y0;
-    }
-    if y >= y1 {
-        return at_y1;
-    }
-    (
-        on_line(y, y0, at_y0.0, y1, at_y1.0),
-        on_line(y, y0, at_y0.1, y1, at_y1.1),
-    )
+/// A table of one entry.
+fn by_one<const N: usize>(places: &[i128; N], limits: &[Limits; N], x: i128) -> Pair {
+    let values = limits.map(|(m, rotation)| (Fraction::whole(m), Fraction::whole(rotation)));
+    linear(places, &values, x)
+}
+
+/// A table of two entries: y within each row, then x between the rows.
+fn by_two<const N: usize, const L: usize>(
+    x_places: &[i128; N],
+    y_places: &[i128; L],
+    limits: &[[Limits; L]; N],
+    x: i128,
+    y: i128,
+) -> Pair {
+    let values = limits.map(|row| by_one(y_places, &row, y));
+    linear(x_places, &values, x)
 }
 
 /// The limits of the class before strengthening and factor.
 fn table_limits(class: u8, n: i128, rho: i128, v: i128, zone: bool) -> Pair {
     match class {
-        COLUMN_A => in_table(&COLUMN_A_TABLE, n),
-        COLUMN_B => between(
-            rho,
-            500,
-            in_table(&COLUMN_B_FEW_HOOPS, n),
-            6_000,
-            in_table(&COLUMN_B_MANY_HOOPS, n),
-        ),
-        COLUMN_C => in_table(&COLUMN_C_TABLE, n),
-        WALL_A if zone => between(
-            v,
-            9_000,
-            in_table(&WALL_A_ZONE_LOW_STRESS, n),
-            13_000,
-            in_table(&WALL_A_ZONE_HIGH_STRESS, n),
-        ),
-        WALL_A => between(
-            v,
-            9_000,
-            in_table(&WALL_A_PLAIN_LOW_STRESS, n),
-            13_000,
-            in_table(&WALL_A_PLAIN_HIGH_STRESS, n),
-        ),
-        _ => in_table(&WALL_B_TABLE, v),
+        COLUMN_A => by_one(&COLUMN_N, &COLUMN_A_LIMITS, n),
+        COLUMN_B => by_two(&COLUMN_B_RHO, &COLUMN_N, &COLUMN_B_LIMITS, rho, n),
+        COLUMN_C => by_one(&COLUMN_C_N, &COLUMN_C_LIMITS, n),
+        WALL_A if zone => by_two(&WALL_A_N, &WALL_V, &WALL_A_ZONE_LIMITS, n, v),
+        WALL_A => by_two(&WALL_A_N, &WALL_V, &WALL_A_PLAIN_LIMITS, n, v),
+        _ => by_one(&WALL_V, &WALL_B_LIMITS, v),
     }
 }
 
@@ -302,75 +322,161 @@ mod tests {
         finished_limits(class, false, 100, table_limits(class, n, rho, v, zone))
     }
 
+    /// Document 01's formulas with numbers ten times as large for the finer grid.
+    #[test]
+    fn ratios_as_written() {
+        let up = |a: u128, b: u128| a.div_ceil(b).min(9_999_999) as i128;
+        for (f_cm, a_c, force) in [
+            (100, 90_000, 3_150),
+            (100, 90_000, 1),
+            (137, 123_457, 2_718),
+            (9_999, 9_999_999, 1),
+            (9_999, 9_999_999, 9_999_999),
+            (1, 1, 1),
+            (1_000, 100_000, 9_999_998),
+            (1_000, 99_999, 9_999_998),
+        ] {
+            let m = Member {
+                f_cm,
+                a_c,
+                ..Member::default()
+            };
+            let product = f_cm as u128 * a_c as u128;
+            let expected = up(100_000_000 * force as u128, product);
+            assert_eq!(axial_ratio(force, &m), expected);
+            assert_eq!(axial_ratio(-force, &m), 0);
+        }
+        for (k, m_e, m_p) in [
+            (100, 600, 200),
+            (90, 600, 200),
+            (90, 1, 9_999_999),
+            (100, 9_999_999, 1),
+            (100, 9_999_998, 100_000),
+            (90, 0, 7),
+        ] {
+            let m = Member {
+                m_e,
+                m_p,
+                ..Member::default()
+            };
+            let product = k as u128 * m_p as u128;
+            let expected = up(10_000_000 * m_e as u128, product);
+            assert_eq!(moment_ratio(k, &m), expected);
+        }
+        for (short_side, d, f_ctm, v_e) in [
+            (200, 5_000, 1_000, 90_000),
+            (250, 1_870, 113, 4_321),
+            (99_999, 99_999, 9_999, 1),
+            (1, 1, 1, 9_999_999),
+            (1, 1, 1, 0),
+        ] {
+            let m = Member {
+                short_side,
+                d,
+                f_ctm,
+                v_e,
+                ..Member::default()
+            };
+            let product = short_side as u128 * d as u128 * f_ctm as u128;
+            let expected = up(1_000_000_000 * v_e as u128, product);
+            assert_eq!(wall_stress(&m), expected);
+        }
+        // ρ keeps its grid, its cap and its side.
+        for (a_sh, s, b_k, rho) in [
+            (100, 200, 250, 2_000),
+            (1, 200, 251, 19),
+            (0, 200, 250, 0),
+            (99_999, 100, 1_000, 999_990),
+            (99_999, 1, 99_999, 999_999),
+            (99_999, 1, 1, 999_999),
+        ] {
+            let m = Member {
+                a_sh,
+                s,
+                b_k,
+                ..Member::default()
+            };
+            assert_eq!(hoop_ratio(&m), rho);
+        }
+    }
+
     #[test]
     fn rows_of_the_tables() {
         for (n, m, rotation) in [
-            (0, 60_000, 40_000),
-            (1_000, 60_000, 40_000),
-            (6_000, 30_000, 15_000),
-            (7_000, 10_000, 5_000),
-            (10_000, 10_000, 0),
-            (999_999, 10_000, 0),
+            (0, 600_000, 40_000),
+            (10_000, 600_000, 40_000),
+            (60_000, 300_000, 15_000),
+            (70_000, 100_000, 5_000),
+            (100_000, 100_000, 0),
+            (9_999_999, 100_000, 0),
         ] {
             assert_eq!(rounded(COLUMN_A, n, 0, 0, false), (m, rotation));
         }
         for (rho, n, m, rotation) in [
-            (0, 0, 25_000, 12_500),
-            (500, 1_000, 25_000, 12_500),
-            (500, 6_000, 12_500, 5_000),
-            (500, 7_000, 10_000, 5_000),
-            (500, 10_000, 10_000, 0),
-            (6_000, 1_000, 60_000, 35_000),
-            (6_000, 6_000, 30_000, 10_000),
-            (6_000, 7_000, 10_000, 5_000),
-            (6_000, 10_000, 10_000, 0),
-            (999_999, 999_999, 10_000, 0),
+            (0, 0, 250_000, 12_500),
+            (500, 10_000, 250_000, 12_500),
+            (500, 60_000, 125_000, 5_000),
+            (500, 70_000, 100_000, 5_000),
+            (500, 100_000, 100_000, 0),
+            (6_000, 10_000, 600_000, 35_000),
+            (6_000, 60_000, 300_000, 10_000),
+            (6_000, 70_000, 100_000, 5_000),
+            (6_000, 100_000, 100_000, 0),
+            (999_999, 9_999_999, 100_000, 0),
         ] {
             assert_eq!(rounded(COLUMN_B, n, rho, 0, false), (m, rotation));
         }
         for (n, m, rotation) in [
-            (0, 10_000, 5_000),
-            (7_000, 10_000, 5_000),
-            (10_000, 10_000, 0),
+            (0, 100_000, 5_000),
+            (70_000, 100_000, 5_000),
+            (100_000, 100_000, 0),
+            (9_999_999, 100_000, 0),
         ] {
             assert_eq!(rounded(COLUMN_C, n, 0, 0, false), (m, rotation));
         }
         for (zone, n, v, m, rotation) in [
-            (true, 0, 0, 70_000, 30_000),
-            (true, 1_000, 9_000, 70_000, 30_000),
-            (true, 1_000, 13_000, 40_000, 15_000),
-            (true, 2_500, 9_000, 40_000, 20_000),
-            (true, 2_500, 13_000, 25_000, 10_000),
-            (true, 999_999, 999_999, 25_000, 10_000),
-            (false, 0, 0, 45_000, 15_000),
-            (false, 1_000, 9_000, 45_000, 15_000),
-            (false, 1_000, 13_000, 25_000, 7_500),
-            (false, 2_500, 9_000, 25_000, 10_000),
-            (false, 2_500, 13_000, 15_000, 5_000),
-            (false, 999_999, 999_999, 15_000, 5_000),
+            (true, 0, 0, 700_000, 30_000),
+            (true, 10_000, 90_000, 700_000, 30_000),
+            (true, 10_000, 130_000, 400_000, 15_000),
+            (true, 25_000, 90_000, 400_000, 20_000),
+            (true, 25_000, 130_000, 250_000, 10_000),
+            (true, 9_999_999, 9_999_999, 250_000, 10_000),
+            (false, 0, 0, 450_000, 15_000),
+            (false, 10_000, 90_000, 450_000, 15_000),
+            (false, 10_000, 130_000, 250_000, 7_500),
+            (false, 25_000, 90_000, 250_000, 10_000),
+            (false, 25_000, 130_000, 150_000, 5_000),
+            (false, 9_999_999, 9_999_999, 150_000, 5_000),
         ] {
             assert_eq!(rounded(WALL_A, n, 0, v, zone), (m, rotation));
         }
         for (v, m, rotation) in [
-            (0, 50_000, 20_000),
-            (9_000, 50_000, 20_000),
-            (13_000, 25_000, 10_000),
-            (999_999, 25_000, 10_000),
+            (0, 500_000, 20_000),
+            (90_000, 500_000, 20_000),
+            (130_000, 250_000, 10_000),
+            (9_999_999, 250_000, 10_000),
         ] {
-            assert_eq!(rounded(WALL_B, 5_000, 0, v, true), (m, rotation));
+            assert_eq!(rounded(WALL_B, 50_000, 0, v, true), (m, rotation));
         }
     }
 
     #[test]
     fn beside_the_rows() {
-        // One ten-thousandth past a row: slope 6 and 5 to the row at 6,000.
-        assert_eq!(rounded(COLUMN_A, 1_001, 0, 0, false), (59_994, 39_995));
-        assert_eq!(rounded(COLUMN_A, 6_001, 0, 0, false), (29_980, 14_990));
-        // 5,000 - 5/3 and - 10/3.
-        assert_eq!(rounded(COLUMN_A, 7_001, 0, 0, false), (10_000, 4_998));
-        assert_eq!(rounded(COLUMN_C, 7_002, 0, 0, false), (10_000, 4_996));
-        // 50,000 - 6.25 and 20,000 - 2.5.
-        assert_eq!(rounded(WALL_B, 0, 0, 9_001, false), (49_993, 19_997));
+        // One hundred-thousandth past a row: less 6 and 1/2, less 20 and 1.
+        assert_eq!(rounded(COLUMN_A, 10_001, 0, 0, false), (599_994, 39_999));
+        assert_eq!(rounded(COLUMN_A, 10_002, 0, 0, false), (599_988, 39_999));
+        assert_eq!(rounded(COLUMN_A, 60_001, 0, 0, false), (299_980, 14_999));
+        // Each step 1/6: 5,000 - 1/6, - 6/6, - 7/6.
+        assert_eq!(rounded(COLUMN_A, 70_001, 0, 0, false), (100_000, 4_999));
+        assert_eq!(rounded(COLUMN_C, 70_006, 0, 0, false), (100_000, 4_999));
+        assert_eq!(rounded(COLUMN_C, 70_007, 0, 0, false), (100_000, 4_998));
+        // ρ one millionth up: 250,000 + 350,000 / 5,500, 12,500 + 22,500 / 5,500.
+        assert_eq!(rounded(COLUMN_B, 0, 501, 0, false), (250_063, 12_504));
+        // 700,000 - 20 and 30,000 - 2/3; 700,000 - 7.5 and 30,000 - 3/8.
+        assert_eq!(rounded(WALL_A, 10_001, 0, 0, true), (699_980, 29_999));
+        assert_eq!(rounded(WALL_A, 0, 0, 90_001, true), (699_992, 29_999));
+        // 500,000 - 6.25 and 20,000 - 1/4.
+        assert_eq!(rounded(WALL_B, 0, 0, 90_001, false), (499_993, 19_999));
     }
 
     #[test]

@@ -7,10 +7,20 @@ use crate::records::{by_storey, check_storey_call, check_survey, Header, Member,
 /// The largest tilt that passes, microradians.
 const TILT_MOST: u64 = 25_000;
 
+/// The largest share that is allowed, hundredths.
+const SHARE_MOST: i128 = 35;
+
+/// It is allowed up to this Σ for each member, on the grid of n_D.
+const SHARE_MOST_TO: i128 = 10_000;
+
+/// None is allowed from this Σ for each member; above it one member over is
+/// enough.
+const SHARE_NONE_FROM: i128 = 65_000;
+
 #[derive(Clone, Copy, Debug, PartialEq, Eq)]
 pub struct StoreyFinding {
     pub number: u64,
-    /// Σ, the total of n_D.
+    /// Σ, the total of n_D, hundred-thousandths.
     pub sum: u64,
     /// The member count.
     pub c: u64,
@@ -72,7 +82,7 @@ pub(crate) fn find_storey(
     let some_member_over = found.iter().any(|f| f.over);
 
     let risky = share_exceeded(p, s.shear, sum, c)
-        || (sum > 6_500 * c && some_member_over)
+        || (one_is_enough(sum, c) && some_member_over)
         || damage_reached(members);
 
     let finding = StoreyFinding {
@@ -124,16 +134,23 @@ fn shear_of_members_over(members: &[Member], found: &[MemberFinding]) -> u64 {
     p
 }
 
-/// The share of the storey shear that members over may carry.
+/// The share of the storey shear that members over may carry: between the two
+/// ends on a straight line.
 fn allowed_share(sum: u64, c: u64) -> Fraction {
     let (sum, c) = (sum as i128, c as i128);
-    if sum <= 1_000 * c {
-        Fraction::new(35, 100)
-    } else if sum >= 6_500 * c {
+    let (first, second) = (SHARE_MOST_TO * c, SHARE_NONE_FROM * c);
+    let most = Fraction::new(SHARE_MOST, 100);
+    if sum <= first {
+        most
+    } else if sum >= second {
         Fraction::whole(0)
     } else {
-        Fraction::new(7 * (6_500 * c - sum), 110_000 * c)
+        most.times(Fraction::new(second - sum, second - first))
     }
+}
+
+fn one_is_enough(sum: u64, c: u64) -> bool {
+    sum as i128 > SHARE_NONE_FROM * c as i128
 }
 
 fn share_exceeded(p: u64, w: u64, sum: u64, c: u64) -> bool {
@@ -155,11 +172,31 @@ mod tests {
     fn the_allowed_share() {
         let share = |sum, c| allowed_share(sum, c);
         assert_eq!(share(0, 2), Fraction::new(7, 20));
-        assert_eq!(share(2_000, 2), Fraction::new(7, 20));
-        assert_eq!(share(2_001, 2), Fraction::new(7 * 10_999, 220_000));
-        assert_eq!(share(7_500, 2), Fraction::new(175, 1_000));
-        assert_eq!(share(12_999, 2), Fraction::new(7, 220_000));
-        assert_eq!(share(13_000, 2), Fraction::whole(0));
-        assert_eq!(share(13_001, 2), Fraction::whole(0));
+        assert_eq!(share(20_000, 2), Fraction::new(7, 20));
+        assert_eq!(share(20_001, 2), Fraction::new(7 * 109_999, 2_200_000));
+        assert_eq!(share(75_000, 2), Fraction::new(175, 1_000));
+        assert_eq!(share(129_999, 2), Fraction::new(7, 2_200_000));
+        assert_eq!(share(130_000, 2), Fraction::whole(0));
+        assert_eq!(share(130_001, 2), Fraction::whole(0));
+    }
+
+    #[test]
+    fn the_allowed_share_as_written() {
+        for c in [1, 2, 3, 7, 200] {
+            for sum in (10_000 * c..=65_000 * c).step_by(997) {
+                let (a, b) = (65_000 * c - sum, 1_100_000 * c);
+                let written = Fraction::new(7 * a as i128, b as i128);
+                assert_eq!(allowed_share(sum, c), written, "{sum} {c}");
+            }
+        }
+    }
+
+    #[test]
+    fn one_member_over() {
+        for c in [1, 2, 200] {
+            assert!(!one_is_enough(65_000 * c - 1, c));
+            assert!(!one_is_enough(65_000 * c, c));
+            assert!(one_is_enough(65_000 * c + 1, c));
+        }
     }
 }

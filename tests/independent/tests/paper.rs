@@ -36,18 +36,18 @@ fn worked_example() {
 fn worked_example_in_calls() {
     let members = [member(), second_member()];
     let f = judge_storey(100, &storey(), &members).unwrap();
-    assert_eq!((f.number, f.sum, f.c, f.p, f.w), (1, 7_500, 2, 200, 1_000));
+    assert_eq!((f.number, f.sum, f.c, f.p, f.w), (1, 75_000, 2, 200, 1_000));
     assert!(f.risky && !f.meets_wall_share);
     let b = judge_building(&header(), &[storey()], &members).unwrap();
     assert!(b.risky && !b.tilt_above);
     assert_eq!(b.risky_places, [1]);
     let m = judge_member(100, false, &member()).unwrap();
-    assert_eq!((m.class, m.n_d, m.n, m.m), (2, 3_500, 3_500, 30_000));
+    assert_eq!((m.class, m.n_d, m.n, m.m), (2, 35_000, 35_000, 300_000));
 }
 
 #[test]
 fn edge_a() {
-    assert_eq!(limits(100, &detailed()), (1, 45_000, 27_500));
+    assert_eq!(limits(100, &detailed()), (1, 450_000, 27_500));
 }
 
 #[test]
@@ -58,7 +58,7 @@ fn edge_b() {
         a_sh: 3_250,
         ..member()
     };
-    assert_eq!(limits(100, &m), (2, 31_875, 15_625));
+    assert_eq!(limits(100, &m), (2, 318_750, 15_625));
 }
 
 #[test]
@@ -70,7 +70,7 @@ fn edge_c() {
         strengthened: 1,
         ..member()
     };
-    assert_eq!(limits(100, &m), (2, 23_906, 11_718));
+    assert_eq!(limits(100, &m), (2, 239_062, 11_718));
 }
 
 #[test]
@@ -80,28 +80,28 @@ fn edge_d() {
         n_k: 7_650,
         ..member()
     };
-    assert_eq!(limits(100, &m), (3, 10_000, 2_500));
+    assert_eq!(limits(100, &m), (3, 100_000, 2_500));
     let m = Member {
         strengthened: 1,
         ..m
     };
-    assert_eq!(limits(100, &m), (3, 10_000, 2_500));
+    assert_eq!(limits(100, &m), (3, 100_000, 2_500));
 }
 
 #[test]
 fn edge_e() {
     let m = Member {
-        n_k: 1_750,
-        v_e: 11_000,
-        v_r: 20_000,
+        n_k: 17_500,
+        v_e: 110_000,
+        v_r: 200_000,
         ..wall()
     };
-    assert_eq!(limits(100, &m), (4, 43_750, 18_750));
+    assert_eq!(limits(100, &m), (4, 437_500, 18_750));
     let m = Member {
         strengthened: 1,
         ..m
     };
-    assert_eq!(limits(100, &m), (4, 43_750, 18_750));
+    assert_eq!(limits(100, &m), (4, 437_500, 18_750));
 }
 
 #[test]
@@ -184,7 +184,7 @@ fn edge_g() {
     let with_v = |v| {
         let members = [Member { v, ..member() }, second_member()];
         let f = judge_storey(100, &storey(), &members).unwrap();
-        assert_eq!((f.sum, f.c, f.p, f.w), (7_500, 2, v, 1_000));
+        assert_eq!((f.sum, f.c, f.p, f.w), (75_000, 2, v, 1_000));
         f.risky
     };
     assert!(!with_v(175));
@@ -193,9 +193,10 @@ fn edge_g() {
 
 #[test]
 fn edge_h() {
-    // n_D equals N_D here.
+    // n_D equals N_D here, and n equals N_K.
     let one = Member {
-        a_c: 100_000,
+        a_c: 1_000_000,
+        n_k: 35_000,
         v: 0,
         ..member()
     };
@@ -204,17 +205,17 @@ fn edge_h() {
             Member { n_d, ..one },
             Member {
                 number: 2,
-                n_d: 6_500,
+                n_d: 65_000,
                 m_e: 0,
                 ..one
             },
         ];
         let f = judge_storey(100, &storey(), &members).unwrap();
-        assert_eq!((f.sum as i64, f.p), (6_500 + n_d, 0));
+        assert_eq!((f.sum as i64, f.p), (65_000 + n_d, 0));
         f.risky
     };
-    assert!(!with_n_d(6_500));
-    assert!(with_n_d(6_501));
+    assert!(!with_n_d(65_000));
+    assert!(with_n_d(65_001));
 }
 
 #[test]
@@ -325,7 +326,7 @@ fn wall_edges() {
         class(
             100,
             &Member {
-                v_r: 9_000,
+                v_r: 90_000,
                 ..wall()
             }
         ),
@@ -335,7 +336,7 @@ fn wall_edges() {
         class(
             90,
             &Member {
-                v_r: 10_000,
+                v_r: 100_000,
                 ..wall()
             }
         ),
@@ -345,7 +346,7 @@ fn wall_edges() {
         class(
             90,
             &Member {
-                v_r: 10_001,
+                v_r: 100_001,
                 ..wall()
             }
         ),
@@ -377,96 +378,59 @@ fn wall_edges() {
         boundary_zone: 0,
         ..wall()
     };
-    assert_eq!(limits(100, &plain), (4, 45_000, 15_000));
+    assert_eq!(limits(100, &plain), (4, 450_000, 15_000));
     assert_eq!(
         limits(
             100,
             &Member {
-                v_r: 9_000,
+                v_r: 90_000,
                 ..plain
             }
         ),
-        (5, 50_000, 20_000)
+        (5, 500_000, 20_000)
     );
 }
 
 #[test]
 fn ratios_round_to_the_unfavourable_side() {
     let of = |m: &Member| judge_member(100, false, m).unwrap();
-    // 10,000,000 x 1 / 9,000,000 and one third more.
-    assert_eq!(
-        of(&Member {
-            n_k: 1,
-            n_d: 3,
+    // 100,000,000 x 1 / 9,000,000 is 11 1/9, and 33 1/3 for 3.
+    let light = Member {
+        n_k: 1,
+        n_d: 3,
+        ..member()
+    };
+    assert_eq!((of(&light).n, of(&light).n_d), (12, 34));
+    let tension = Member {
+        n_k: 0,
+        n_d: -1,
+        ..member()
+    };
+    assert_eq!((of(&tension).n, of(&tension).n_d), (0, 0));
+    let tension = Member {
+        n_k: -999_999,
+        n_d: -999_999,
+        ..member()
+    };
+    assert_eq!((of(&tension).n, of(&tension).n_d), (0, 0));
+    // 10,000,000 x 1 / (100 x 300,000) is 1/3.
+    let with_moments = |m_e, m_p| {
+        let m = Member {
+            m_e,
+            m_p,
             ..member()
-        })
-        .n,
-        2
-    );
-    assert_eq!(
-        of(&Member {
-            n_k: 1,
-            n_d: 3,
-            ..member()
-        })
-        .n_d,
-        4
-    );
-    assert_eq!(
-        of(&Member {
-            n_k: 0,
-            n_d: -1,
-            ..member()
-        })
-        .n,
-        0
-    );
-    assert_eq!(
-        of(&Member {
-            n_k: -999_999,
-            n_d: -999_999,
-            ..member()
-        })
-        .n_d,
-        0
-    );
-    assert_eq!(
-        of(&Member {
-            m_e: 1,
-            m_p: 30_000,
-            ..member()
-        })
-        .m,
-        1
-    );
-    assert_eq!(
-        of(&Member {
-            m_e: 0,
-            m_p: 30_000,
-            ..member()
-        })
-        .m,
-        0
-    );
+        };
+        of(&m).m
+    };
+    assert_eq!(with_moments(1, 300_000), 1);
+    assert_eq!(with_moments(0, 300_000), 0);
+    assert_eq!(with_moments(3, 300_000), 1);
+    assert_eq!(with_moments(4, 300_000), 2);
     // Caps.
-    assert_eq!(
-        of(&Member {
-            m_e: 999_999,
-            m_p: 10_000,
-            ..member()
-        })
-        .m,
-        999_999
-    );
-    assert_eq!(
-        of(&Member {
-            m_e: 1_000_000,
-            m_p: 10_000,
-            ..member()
-        })
-        .m,
-        999_999
-    );
+    assert_eq!(with_moments(9_999_998, 100_000), 9_999_998);
+    assert_eq!(with_moments(9_999_999, 100_000), 9_999_999);
+    assert_eq!(with_moments(9_999_999, 99_999), 9_999_999);
+    assert_eq!(with_moments(9_999_999, 1), 9_999_999);
     let small = Member {
         f_cm: 1,
         a_c: 1,
@@ -474,7 +438,15 @@ fn ratios_round_to_the_unfavourable_side() {
         n_k: 9_999_999,
         ..member()
     };
-    assert_eq!((of(&small).n, of(&small).n_d), (999_999, 999_999));
+    assert_eq!((of(&small).n, of(&small).n_d), (9_999_999, 9_999_999));
+    let below = Member {
+        f_cm: 1_000,
+        a_c: 100_000,
+        n_d: 9_999_998,
+        n_k: 9_999_997,
+        ..member()
+    };
+    assert_eq!((of(&below).n, of(&below).n_d), (9_999_997, 9_999_998));
     // ρ goes down: 500.9 is 500, and 501 lies one step up the table.
     let at_500 = Member {
         s: 1_000,
@@ -483,48 +455,104 @@ fn ratios_round_to_the_unfavourable_side() {
         n_k: 0,
         ..member()
     };
-    assert_eq!(of(&at_500).m_limit, 25_000);
-    assert_eq!(
-        of(&Member {
-            a_sh: 5_010,
-            ..at_500
-        })
-        .m_limit,
-        25_006
-    );
-    // v goes up: 9,000.5 is 9,001.
+    assert_eq!(limits(100, &at_500), (2, 250_000, 12_500));
+    let at_501 = Member {
+        a_sh: 5_010,
+        ..at_500
+    };
+    assert_eq!(limits(100, &at_501), (2, 250_063, 12_504));
+    // v goes up: 90,000.5 is 90,001.
     let wall_b = Member {
         d: 10_000,
         h_w: 1,
-        v_e: 18_001,
-        v_r: 99_999,
+        v_e: 180_001,
+        v_r: 999_999,
         ..wall()
     };
-    assert_eq!(of(&wall_b).m_limit, 49_993);
-    assert_eq!(
-        of(&Member {
-            v_e: 18_000,
-            ..wall_b
-        })
-        .m_limit,
-        50_000
-    );
+    assert_eq!(limits(100, &wall_b), (5, 499_993, 19_999));
+    let at_the_row = Member {
+        v_e: 180_000,
+        ..wall_b
+    };
+    assert_eq!(limits(100, &at_the_row), (5, 500_000, 20_000));
+}
+
+/// Limits of m and of rotation where n or v lies one step past a row, less than
+/// a step of the former grid.
+#[test]
+fn limits_follow_the_finer_ratios() {
+    // n = N_K: 600,000 - 6 and 40,000 - 1/2.
+    let column_a = Member {
+        a_c: 1_000_000,
+        n_k: 10_001,
+        ..detailed()
+    };
+    assert_eq!(limits(100, &column_a), (1, 599_994, 39_999));
+    // 3/4 of them: 449,995.5 and 29,999.625.
+    let jacketed = Member {
+        strengthened: 1,
+        ..column_a
+    };
+    assert_eq!(limits(100, &jacketed), (1, 449_995, 29_999));
+    // A tenth of 40,000 - 1/2.
+    let damaged = Member {
+        factor: 10,
+        ..column_a
+    };
+    assert_eq!(limits(100, &damaged), (1, 599_994, 3_999));
+    // 5,000 - 1/6.
+    let column_c = Member {
+        a_c: 1_000_000,
+        n_k: 70_001,
+        v_e: 111,
+        ..member()
+    };
+    assert_eq!(limits(100, &column_c), (3, 100_000, 4_999));
+    // 700,000 - 20 and 30,000 - 2/3.
+    let by_n = Member {
+        n_k: 10_001,
+        ..wall()
+    };
+    assert_eq!(limits(100, &by_n), (4, 699_980, 29_999));
+    // 700,000 - 7.5 and 30,000 - 3/8.
+    let by_v = Member {
+        v_e: 90_001,
+        v_r: 90_002,
+        ..wall()
+    };
+    assert_eq!(limits(100, &by_v), (4, 699_992, 29_999));
 }
 
 #[test]
 fn limits_hold_at_equality() {
     let over = |m: &Member| judge_member(100, false, m).unwrap().over;
-    // m = M_e; limits 25,909 and 12,500.
+    // m = M_e; limits 259,090 and 12,500.
     let m = Member {
-        m_p: 10_000,
-        m_e: 25_909,
+        m_p: 100_000,
+        m_e: 259_090,
         rotation: 12_500,
         ..member()
     };
     assert!(!over(&m));
-    assert!(over(&Member { m_e: 25_910, ..m }));
+    assert!(over(&Member { m_e: 259_091, ..m }));
     assert!(over(&Member {
         rotation: 12_501,
+        ..m
+    }));
+    // Edge (c): limits 239,062 and 11,718.
+    let m = Member {
+        s: 1_000,
+        b_k: 1_000,
+        a_sh: 3_250,
+        strengthened: 1,
+        m_e: 239_062,
+        rotation: 11_718,
+        ..m
+    };
+    assert!(!over(&m));
+    assert!(over(&Member { m_e: 239_063, ..m }));
+    assert!(over(&Member {
+        rotation: 11_719,
         ..m
     }));
     let m = Member {
@@ -548,7 +576,7 @@ fn m_test_dropped() {
     assert!(!over(true, &w));
     assert!(over(false, &w));
     assert!(over(true, &Member { drift: 7_500, ..w }));
-    assert!(over(true, &Member { v_r: 9_000, ..w }));
+    assert!(over(true, &Member { v_r: 90_000, ..w }));
     assert!(over(
         true,
         &Member {
@@ -629,7 +657,7 @@ fn the_largest_p_is_judged_and_printed() {
     let f = judge_storey(100, &s, &members).unwrap();
     assert_eq!(
         (f.number, f.sum, f.c, f.p, f.w),
-        (1, 700_000, 200, 1_999_999_800, 1_000)
+        (1, 7_000_000, 200, 1_999_999_800, 1_000)
     );
     assert!(f.risky && !f.meets_wall_share);
     let b = judge_building(&header(), &[s], &members).unwrap();
@@ -639,11 +667,11 @@ fn the_largest_p_is_judged_and_printed() {
     let mut expected = String::new();
     for number in 1..=200 {
         expected.push_str(&format!(
-            "M{number:>12}           2       30000       25909        9000       12500           1\n"
+            "M{number:>12}           2      300000      259090        9000       12500           1\n"
         ));
     }
     expected.push_str(
-        "S           1      700000         200  1999999800        1000           1\n\
+        "S           1     7000000         200  1999999800        1000           1\n\
          B           0           1\n",
     );
     let sheet = report(&header(), &[s], &members, expected.len()).unwrap();
@@ -674,6 +702,48 @@ fn the_largest_p_is_judged_and_printed() {
         ..s
     };
     assert_eq!(number_of(&one_more, &copies(&largest, 201)), 3);
+}
+
+/// 200 members at the caps: the largest m and the largest Σ there are.
+#[test]
+fn the_largest_ratios_are_printed() {
+    let largest = Member {
+        f_cm: 1,
+        a_c: 1,
+        n_d: 9_999_999,
+        n_k: 9_999_999,
+        m_e: 9_999_999,
+        m_p: 1,
+        ..member()
+    };
+    let members = copies(&largest, 200);
+    let s = Storey {
+        member_count: 200,
+        ..storey()
+    };
+    let mut expected = String::new();
+    for number in 1..=200 {
+        expected.push_str(&format!(
+            "M{number:>12}           2     9999999      100000        9000           0           1\n"
+        ));
+    }
+    expected.push_str(
+        "S           1  1999999800         200       40000        1000           1\n\
+         B           0           1\n",
+    );
+    let sheet = report(&header(), &[s], &members, expected.len()).unwrap();
+    assert_eq!(sheet, expected.as_bytes());
+}
+
+/// Σ adds the ratios as rounded: 33 1/3 of each member counts 34.
+#[test]
+fn sigma_adds_rounded_ratios() {
+    let members = copies(&Member { n_d: 3, ..member() }, 3);
+    let s = Storey {
+        member_count: 3,
+        ..storey()
+    };
+    assert_eq!(judge_storey(100, &s, &members).unwrap().sum, 102);
 }
 
 #[test]

@@ -47,9 +47,9 @@ pub fn example_file() -> Vec<u8> {
 }
 
 pub const EXAMPLE_SHEET: &str = "\
-M           1           2       30000       25909        9000       12500           1
-M           2           2       20000       25909        9000       12500           0
-S           1        7500           2         200        1000           1
+M           1           2      300000      259090        9000       12500           1
+M           2           2      200000      259090        9000       12500           0
+S           1       75000           2         200        1000           1
 B           0           1
 ";
 
@@ -129,17 +129,17 @@ pub fn wall() -> Member {
     Member {
         long_side: 1_000,
         short_side: 200,
-        a_c: 200_000,
+        a_c: 2_000_000,
         f_cm: 50,
-        f_ctm: 100,
+        f_ctm: 1_000,
         d: 5_000,
         h_w: 2_000,
         boundary_zone: 1,
         n_d: 0,
-        n_k: 1_000,
+        n_k: 10_000,
         m_e: 0,
-        v_e: 9_000,
-        v_r: 9_001,
+        v_e: 90_000,
+        v_r: 90_001,
         rotation: 0,
         ..member()
     }
