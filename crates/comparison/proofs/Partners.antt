@@ -87,7 +87,7 @@ module _ (walls : WallCondition) (k : ℕ) (m n : Member) (s : AtLeastAsSevere w
     fallen falls = go (isWall m) refl
       where
         go : (t : Bool) → isWall m ≡ t → Fallen set k m n
-        go true e = let l = falls k m n pos vm vn s e in record { m = l .0; rotation = l .1 }
+        go true e = let l = falls k m n pos vm vn s e in record { moment = l .0; rotation = l .1 }
         go false e = columns-fall set good k pos m n vm vn worse e not-to-c
 
     pub over-kept : LimitsFall walls set → (met : Bool) → isOver set k met m ≡ true → isOver set k met n ≡ true
@@ -96,4 +96,4 @@ module _ (walls : WallCondition) (k : ℕ) (m n : Member) (s : AtLeastAsSevere w
 -- "every wall has its partner's class", by any set in order
 pub same-class : (set : LimitSet) → orderedSet set ≡ true → LimitsFall SameClass set
 same-class set good k m n pos vm vn s w =
-    let l = same-class-falls set good k pos m n vm vn (worse SameClass k m n s) (s .wall-class w) in (l .m, l .rotation)
+    let l = same-class-falls set good k pos m n vm vn (worse SameClass k m n s) (s .wall-class w) in (l .moment, l .rotation)

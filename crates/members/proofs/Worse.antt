@@ -132,7 +132,7 @@ exceeds-stays d d' {m} {m'} {l} {l'} {r} {r'} {a} {a'} f hm hl hr ha e =
 
 -- both limits of the second are at most those of the first
 pub record Fallen (s : LimitSet) (k : ℕ) (m m' : Member) : Type 0 where
-  pub m : mLimit s k m' .0 ≤ mLimit s k m .0
+  pub moment : mLimit s k m' .0 ≤ mLimit s k m .0
   pub rotation : rotationLimit s k m' .0 ≤ rotationLimit s k m .0
 
 -- limits at equal marks
@@ -162,7 +162,7 @@ module _ (s : LimitSet) (o : orderedSet s ≡ true) (k : ℕ) (level : 0 < k) (m
   limits-fall l g =
       let h : m .strengthened ≡ 1 → classOf k m' ≡ ColumnC → classOf k m ≡ ColumnC = λ t. g (sym (w .strengthened) ∙ t) in
       record {
-        m = m-worse s o ratios-worse l (w .zone) (w .strengthened) h;
+        moment = m-worse s o ratios-worse l (w .zone) (w .strengthened) h;
         rotation = rotation-worse s o ratios-worse l (w .zone) (w .strengthened) h (m .factor) (m' .factor) (w .factor);
       }
 
@@ -179,7 +179,7 @@ module _ (s : LimitSet) (k : ℕ) (level : 0 < k) (m m' : Member) (v' : Valid m'
   over-stays met l e =
       exceeds-stays (mDropped k met m) (mDropped k met m') (dropped-back m m' w k met)
       (moment-mono k (w .me) (w .mp) level (v' .mp-least))
-      (l .m)
+      (l .moment)
       (w .rotation)
       (l .rotation)
       e
