@@ -13,27 +13,28 @@ use Rattle.members.specs.Finding.{answerBy}
 use Rattle.members.proofs.Order.{published-ordered}
 use Rattle.storeys.specs.declared.BuildingAnswer.{BuildingAnswer}
 use Rattle.storeys.specs.Storey.{Rules, publishedRules, meetsWallShare, over, storeyRisky, storeyAnswerBy}
-use Rattle.comparison.specs.Orderly.{orderly}
+use Rattle.comparison.specs.Orderly.{orderly, LimitsFall}
 use Rattle.storeys.specs.Building.{riskyAt, someRisky, buildingRisky, tilted}
 use Rattle.comparison.specs.Pairing.{EveryPair}
-use Rattle.comparison.specs.Demand3.{Survey, StoreyMembers, storeyMembersAt, storeysMembers, Accepted, overIn, riskyIn, Over, Risky, MemberPairs, StoreyPairs, AtLeastAsSevere, AtLeastAsSevereStorey, NowhereBetter, Carried, Demand3By, Demand3}
+use Rattle.comparison.specs.Demand3.{WallCondition, SameClass, Survey, StoreyMembers, storeyMembersAt, storeysMembers, Accepted, overIn, riskyIn, Over, Risky, MemberPairs, StoreyPairs, AtLeastAsSevere, AtLeastAsSevereStorey, NowhereBetter, Carried, Demand3By, Demand3}
 use Rattle.comparison.proofs.Tests.{or-carried, excess-carried, at-equals}
 use Rattle.comparison.proofs.Pairs.{each, both, of-all, some-carried}
+use Rattle.comparison.proofs.Partners.{same-class}
 use Rattle.comparison.proofs.Storeys.{Orderly, rules-ordered, Known, overs-carried, risky-carried}
 use Rattle.comparison.proofs.Accepted.{Sound, level-positive, has-members, good-members, risky-found, over-found, verdict-found, level-known, sound-storeys}
 
 -- two storeys that are partners, judged with the levels j and k
-module _ (rules : Rules) (good : Orderly rules) (j k : ℕ) (same : j ≡ k) (pos : 0 < j) (f g : StoreyMembers) (ms : MemberPairs (f .members) (g .members)) (sf : Sound j f) (sg : Sound k g) (worse : AtLeastAsSevereStorey j f g ms) where
+module _ (walls : WallCondition) (rules : Rules) (good : Orderly rules) (falls : LimitsFall walls (rules .limits)) (j k : ℕ) (same : j ≡ k) (pos : 0 < j) (f g : StoreyMembers) (ms : MemberPairs (f .members) (g .members)) (sf : Sound j f) (sg : Sound k g) (worse : AtLeastAsSevereStorey walls j f g ms) where
   shear-same : f .storey .shear ≡ g .storey .shear
   shear-same = omega (arith, worse .shear)
 
   faultless : EveryPair (λ m n u. (memberFault m ≡ 0) × (memberFault n ≡ 0)) ms
   faultless = of-all (λ m. memberFault m ≡ 0) (λ m. memberFault m ≡ 0) ms (good-members j f sf) (good-members k g sg)
 
-  known : EveryPair (Known j) ms
+  known : EveryPair (Known walls j) ms
   known =
-      each (λ m n u. ((memberFault m ≡ 0) × (memberFault n ≡ 0)) × AtLeastAsSevere j m n) (Known j) (λ m n u h. ((valid m (h .0 .0), valid n (h .0 .1)), h .1)) ms
-      (both (λ m n u. (memberFault m ≡ 0) × (memberFault n ≡ 0)) (λ m n u. AtLeastAsSevere j m n) ms faultless (worse .members))
+      each (λ m n u. ((memberFault m ≡ 0) × (memberFault n ≡ 0)) × AtLeastAsSevere walls j m n) (Known walls j) (λ m n u h. ((valid m (h .0 .0), valid n (h .0 .1)), h .1)) ms
+      (both (λ m n u. (memberFault m ≡ 0) × (memberFault n ≡ 0)) (λ m n u. AtLeastAsSevere walls j m n) ms faultless (worse .members))
 
   -- the 0.40 conditions
   abbrev metF : Bool
@@ -45,7 +46,7 @@ module _ (rules : Rules) (good : Orderly rules) (j k : ℕ) (same : j ≡ k) (po
   overs : EveryPair (λ m n u. over rules j metF m ≡ true → over rules k metG n ≡ true) ms
   overs =
       at-equals (λ l w. EveryPair (λ m n u. over rules j metF m ≡ true → over rules l (meetsWallShare w (g .members)) n ≡ true) ms) same shear-same
-      (overs-carried rules good j (f .storey .shear) pos ms known)
+      (overs-carried walls rules good falls j (f .storey .shear) pos ms known)
 
   members-carried : EveryPair (λ m n u. overIn (answerBy (rules .limits) j metF m) ≡ true → overIn (answerBy (rules .limits) k metG n) ≡ true) ms
   members-carried =
@@ -58,7 +59,7 @@ module _ (rules : Rules) (good : Orderly rules) (j k : ℕ) (same : j ≡ k) (po
   risky-kept : storeyRisky rules j (f .storey .shear) (f .members) ≡ true → storeyRisky rules k (g .storey .shear) (g .members) ≡ true
   risky-kept e =
       at-equals (λ l w. storeyRisky rules l w (g .members) ≡ true) same shear-same
-      (risky-carried rules good j (f .storey .shear) pos ms known (has-members j f sf) e)
+      (risky-carried walls rules good falls j (f .storey .shear) pos ms known (has-members j f sf) e)
 
   storey-carried : riskyIn (storeyAnswerBy rules j (f .storey) (f .members)) ≡ true → riskyIn (storeyAnswerBy rules k (g .storey) (g .members)) ≡ true
   storey-carried e = risky-found k g sg rules ∙ risky-kept (sym (risky-found j f sf rules) ∙ e)
@@ -87,7 +88,7 @@ unfolding tilted
 tilt-carried a b h l =
     excess-carried _ (max (a .header .tilt1) (a .header .tilt2)) _ (max (b .header .tilt1) (b .header .tilt2)) (le-refl _) (omega (arith, h, l))
 
-module _ (rules : Rules) (good : Orderly rules) (a b : Survey) (r q : BuildingAnswer) (ra : Accepted rules a r) (rb : Accepted rules b q) (pairs : StoreyPairs a b) (worse : NowhereBetter a b pairs) where
+module _ (walls : WallCondition) (rules : Rules) (good : Orderly rules) (falls : LimitsFall walls (rules .limits)) (a b : Survey) (r q : BuildingAnswer) (ra : Accepted rules a r) (rb : Accepted rules b q) (pairs : StoreyPairs a b) (worse : NowhereBetter walls a b pairs) where
   same-level : a .header .knowledge ≡ b .header .knowledge
   same-level = omega (arith, worse .knowledge)
 
@@ -95,17 +96,17 @@ module _ (rules : Rules) (good : Orderly rules) (a b : Survey) (r q : BuildingAn
   positive = level-positive (a .header .knowledge) (level-known rules a r ra)
 
   abbrev Facts : (f g : StoreyMembers) → MemberPairs (f .members) (g .members) → Type 0
-  Facts f g ms = (Sound (a .header .knowledge) f × Sound (b .header .knowledge) g) × AtLeastAsSevereStorey (a .header .knowledge) f g ms
+  Facts f g ms = (Sound (a .header .knowledge) f × Sound (b .header .knowledge) g) × AtLeastAsSevereStorey walls (a .header .knowledge) f g ms
 
   facts : EveryPair Facts pairs
   facts =
-      both (λ f g ms. Sound (a .header .knowledge) f × Sound (b .header .knowledge) g) (λ f g ms. AtLeastAsSevereStorey (a .header .knowledge) f g ms) pairs
+      both (λ f g ms. Sound (a .header .knowledge) f × Sound (b .header .knowledge) g) (λ f g ms. AtLeastAsSevereStorey walls (a .header .knowledge) f g ms) pairs
       (of-all (Sound (a .header .knowledge)) (Sound (b .header .knowledge)) pairs (sound-storeys rules a r ra) (sound-storeys rules b q rb)) (worse .storeys)
 
   verdicts : EveryPair (λ f g ms. verdict rules (a .header .knowledge) f ≡ true → verdict rules (b .header .knowledge) g ≡ true) pairs
   verdicts =
       each Facts (λ f g ms. verdict rules (a .header .knowledge) f ≡ true → verdict rules (b .header .knowledge) g ≡ true)
-      (λ f g ms h. risky-kept rules good (a .header .knowledge) (b .header .knowledge) same-level positive f g ms (h .0 .0) (h .0 .1) (h .1)) pairs facts
+      (λ f g ms h. risky-kept walls rules good falls (a .header .knowledge) (b .header .knowledge) same-level positive f g ms (h .0 .0) (h .0 .1) (h .1)) pairs facts
 
   building-kept : buildingRisky rules (a .header) (a .storeys) (a .members) ≡ true → buildingRisky rules (b .header) (b .storeys) (b .members) ≡ true
   unfolding buildingRisky
@@ -119,21 +120,21 @@ module _ (rules : Rules) (good : Orderly rules) (a b : Survey) (r q : BuildingAn
       record {
         members =
             each Facts (λ f g ms. EveryPair (λ m n u. Over rules a f m → Over rules b g n) ms)
-            (λ f g ms h. members-carried rules good (a .header .knowledge) (b .header .knowledge) same-level positive f g ms (h .0 .0) (h .0 .1) (h .1)) pairs facts;
+            (λ f g ms h. members-carried walls rules good falls (a .header .knowledge) (b .header .knowledge) same-level positive f g ms (h .0 .0) (h .0 .1) (h .1)) pairs facts;
         storeys =
             each Facts (λ f g ms. Risky rules a f → Risky rules b g)
-            (λ f g ms h. storey-carried rules good (a .header .knowledge) (b .header .knowledge) same-level positive f g ms (h .0 .0) (h .0 .1) (h .1)) pairs facts;
+            (λ f g ms h. storey-carried walls rules good falls (a .header .knowledge) (b .header .knowledge) same-level positive f g ms (h .0 .0) (h .0 .1) (h .1)) pairs facts;
         building = λ e. verdict-found rules b q rb ∙ building-kept (sym (verdict-found rules a r ra) ∙ e);
       }
 
--- for every set of rules whose limits and share ends keep the order
-pub demand3-by : (rules : Rules) → orderly rules ≡ true → Demand3By rules
-demand3-by rules e a b r q ra rb pairs worse = carried rules (rules-ordered rules e) a b r q ra rb pairs worse
+-- for every set of rules in order, and every condition on walls under which their limits fall
+pub demand3-by : (walls : WallCondition) (rules : Rules) → orderly rules ≡ true → LimitsFall walls (rules .limits) → Demand3By walls rules
+demand3-by walls rules e falls a b r q ra rb pairs worse = carried walls rules (rules-ordered rules e) falls a b r q ra rb pairs worse
 
--- the published rules do
+-- the published rules are in order
 published-orderly : orderly publishedRules ≡ true
 published-orderly = rw published-ordered
 
 -- DEMAND 3
 pub demand3 : Demand3
-demand3 = demand3-by publishedRules published-orderly
+demand3 = demand3-by SameClass publishedRules published-orderly (same-class (publishedRules .limits) published-ordered)

@@ -20,7 +20,7 @@ use Rattle.checks.specs.Rows.{rowFault, memberRowsFault, membersBefore, members
 use Rattle.records.specs.Blank.{noMember}
 use Rattle.storeys.specs.Building.{riskyAt, tilted, someRisky, buildingRisky, buildingAnswerBy, named}
 use Rattle.comparison.specs.Pairing.{none, pair, EveryPair}
-use Rattle.comparison.specs.Demand3.{Survey, storeyMembersAt, Accepted, Over, Risky, buildingRiskyIn, StoreyPairs, AtLeastAsSevere, NowhereBetter, Carried}
+use Rattle.comparison.specs.Demand3.{SameClass, Survey, storeyMembersAt, Accepted, Over, Risky, buildingRiskyIn, StoreyPairs, AtLeastAsSevere, NowhereBetter, Carried}
 use Rattle.comparison.proofs.Tests.{never}
 use Rattle.comparison.proofs.Demand3.{demand3}
 
@@ -98,7 +98,7 @@ unfoldable pub pairs : StoreyPairs one other
 unfolding listed membersBefore membersOf
 pairs = pair (_ ∷ []) [] (pair (member (wall 6 600) ∷ []) [] (record {}) (pair [] [] (record {}) none)) (pair [] [] (pair [] [] (record {}) none) none)
 
-worse : (g h : Given) → g .long ≡ h .long → g .short ≡ h .short → g .strengthened ≡ h .strengthened → (isWall (member g) ≡ true → g .shear ≡ h .shear) → g .nd ≤ h .nd → g .nk ≤ h .nk → g .ve ≤ h .ve → g .shear ≤ h .shear → g .damage ≤ h .damage → h .hoops ≤ g .hoops → (isWall (member g) ≡ true → classOf 90 (member g) ≡ classOf 90 (member h)) → (h .strengthened ≡ 1 → classOf 90 (member h) ≡ ColumnC → classOf 90 (member g) ≡ ColumnC) → AtLeastAsSevere 90 (member g) (member h)
+worse : (g h : Given) → g .long ≡ h .long → g .short ≡ h .short → g .strengthened ≡ h .strengthened → (isWall (member g) ≡ true → g .shear ≡ h .shear) → g .nd ≤ h .nd → g .nk ≤ h .nk → g .ve ≤ h .ve → g .shear ≤ h .shear → g .damage ≤ h .damage → h .hoops ≤ g .hoops → (isWall (member g) ≡ true → classOf 90 (member g) ≡ classOf 90 (member h)) → (h .strengthened ≡ 1 → classOf 90 (member h) ≡ ColumnC → classOf 90 (member g) ≡ ColumnC) → AtLeastAsSevere SameClass 90 (member g) (member h)
 worse g h long short strengthened wall-shear nd nk ve shear damage hoops wall-class c =
     record {
       long = long;
@@ -131,25 +131,25 @@ worse g h long short strengthened wall-shear nd nk ve shear damage hoops wall-cl
       strengthened-c = λ e f d. c f d;
     }
 
-column-worse : AtLeastAsSevere 90 (member column) (member columnLater)
+column-worse : AtLeastAsSevere SameClass 90 (member column) (member columnLater)
 column-worse =
     worse column columnLater refl refl refl (λ e. absurd (never e)) (omega arith) (omega arith) (omega arith) (omega arith) (omega arith) (omega arith) (λ e. absurd (never e))
     (λ e f. let z : ⊥ = omega (arith, e) in absurd z)
 
-wall-worse : AtLeastAsSevere 90 (member (wall 2 500)) (member (wall 6 600))
+wall-worse : AtLeastAsSevere SameClass 90 (member (wall 2 500)) (member (wall 6 600))
 unfolding classOf wallClass
 wall-worse =
     worse (wall 2 500) (wall 6 600) refl refl refl (λ e. refl) (omega arith) (omega arith) (omega arith) (omega arith) (omega arith) (omega arith) (λ e. refl)
     (λ e f. let z : ⊥ = omega (arith, e) in absurd z)
 
-tension-worse : AtLeastAsSevere 90 (member (tension 1 900 1)) (member (tension 4 800 3))
+tension-worse : AtLeastAsSevere SameClass 90 (member (tension 1 900 1)) (member (tension 4 800 3))
 unfolding classOf detailed columnClass
 tension-worse =
     worse (tension 1 900 1) (tension 4 800 3) refl refl refl (λ e. absurd (never e)) (omega arith) (omega arith) (omega arith) (omega arith) (omega arith) (omega arith) (λ e. absurd (never e))
     (λ e f. f)
 
 -- all conditions on the two surveys and their pairs
-pub met : NowhereBetter one other pairs
+pub met : NowhereBetter SameClass one other pairs
 unfolding pairs listed membersBefore membersOf EveryPair
 met =
     record {

@@ -12,9 +12,10 @@ use Rattle.members.specs.declared.tables.LimitSet.{LimitSet}
 use Rattle.members.specs.Class.{code, isWall, detailed, shearBelow, columnClass, wallClass, classOf}
 use Rattle.members.specs.Ordered.{orderedSet}
 use Rattle.members.specs.Finding.{axialRatioD, isOver}
-use Rattle.members.proofs.Worse.{Worse, nd-worse, over-stays}
+use Rattle.members.proofs.Worse.{Worse, Fallen, nd-worse, columns-fall, same-class-falls, over-stays}
 use Rattle.storeys.specs.Storey.{wallShear}
-use Rattle.comparison.specs.Demand3.{AtLeastAsSevere}
+use Rattle.comparison.specs.Demand3.{WallCondition, SameClass, AtLeastAsSevere}
+use Rattle.comparison.specs.Orderly.{LimitsFall}
 
 -- only a column is of class C
 wall-not-c : (t : Bool) → pick t WallA WallB ≡ ColumnC → ⊥
@@ -29,7 +30,7 @@ c-is-column k m e = go (isWall m) e
     go true h = absurd (wall-not-c (leb (2 * m .long) (m .height) && shearBelow k (m .case .ve) (m .case .vr)) h)
     go false h = refl
 
-module _ (k : ℕ) (m n : Member) (s : AtLeastAsSevere k m n) where
+module _ (walls : WallCondition) (k : ℕ) (m n : Member) (s : AtLeastAsSevere walls k m n) where
   same-wall : isWall m ≡ isWall n
   same-wall = rw (s .long, s .short)
 
@@ -60,9 +61,6 @@ module _ (k : ℕ) (m n : Member) (s : AtLeastAsSevere k m n) where
         drift = omega (arith, s .drift);
       }
 
-  same-class : isWall m ≡ true → classOf k n ≡ classOf k m
-  same-class w = sym (s .wall-class w)
-
   not-to-c : n .strengthened ≡ 1 → classOf k n ≡ ColumnC → classOf k m ≡ ColumnC
   not-to-c e c = s .strengthened-c (c-is-column k n c) e c
 
@@ -85,5 +83,17 @@ module _ (k : ℕ) (m n : Member) (s : AtLeastAsSevere k m n) where
     pub nd-kept : axialRatioD m .0 ≤ axialRatioD n .0
     nd-kept = nd-worse set good k pos m n vm vn worse
 
-    pub over-kept : (met : Bool) → isOver set k met m ≡ true → isOver set k met n ≡ true
-    over-kept met e = over-stays set good k pos m n vm vn worse met same-class not-to-c e
+    fallen : LimitsFall walls set → Fallen set k m n
+    fallen falls = go (isWall m) refl
+      where
+        go : (t : Bool) → isWall m ≡ t → Fallen set k m n
+        go true e = let l = falls k m n pos vm vn s e in record { moment = l .0; rotation = l .1 }
+        go false e = columns-fall set good k pos m n vm vn worse e not-to-c
+
+    pub over-kept : LimitsFall walls set → (met : Bool) → isOver set k met m ≡ true → isOver set k met n ≡ true
+    over-kept falls met e = over-stays set k pos m n vn worse met (fallen falls) e
+
+-- "every wall has its partner's class", by any set in order
+pub same-class : (set : LimitSet) → orderedSet set ≡ true → LimitsFall SameClass set
+same-class set good k m n pos vm vn s w =
+    let l = same-class-falls set good k pos m n vm vn (worse SameClass k m n s) (s .wall-class w) in (l .moment, l .rotation)

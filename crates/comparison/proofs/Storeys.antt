@@ -15,9 +15,9 @@ use Rattle.records.proofs.Below.{and-left, and-right}
 use Rattle.members.specs.Ordered.{orderedSet}
 use Rattle.members.specs.Finding.{axialRatioD, findingBy}
 use Rattle.storeys.specs.Storey.{Rules, wallShear, meetsWallShare, axialTotal, over, shearIfOver, overShear, someOver, storeyRisky}
-use Rattle.comparison.specs.Orderly.{orderly}
+use Rattle.comparison.specs.Orderly.{orderly, LimitsFall}
 use Rattle.comparison.specs.Pairing.{EveryPair}
-use Rattle.comparison.specs.Demand3.{MemberPairs, AtLeastAsSevere}
+use Rattle.comparison.specs.Demand3.{WallCondition, MemberPairs, AtLeastAsSevere}
 use Rattle.comparison.proofs.Tests.{never, and-carried, or-carried, excess-carried}
 use Rattle.comparison.proofs.Partners.{wall-shear-same, shear-kept, nd-kept, over-kept}
 use Rattle.comparison.proofs.Pairs.{each, total-le, total-equal, length-equal, some-carried}
@@ -44,25 +44,25 @@ counted true false x y f h = absurd (never (f refl))
 counted false b x y f h = omega arith
 
 -- what is known of a pair of members: they are good records, and the second is nowhere better
-abbrev pub Known : ℕ → Member → Member → Unit {0} → Type 0
-Known k m n u = (Valid m × Valid n) × AtLeastAsSevere k m n
+abbrev pub Known : WallCondition → ℕ → Member → Member → Unit {0} → Type 0
+Known walls k m n u = (Valid m × Valid n) × AtLeastAsSevere walls k m n
 
 -- two storeys with the shear w, whose members are paired off by p
-module _ (rules : Rules) (good : Orderly rules) (k w : ℕ) (pos : 0 < k) {ms ns : List Member} (p : MemberPairs ms ns) where
-  module _ (known : EveryPair (Known k) p) where
+module _ (walls : WallCondition) (rules : Rules) (good : Orderly rules) (falls : LimitsFall walls (rules .limits)) (k w : ℕ) (pos : 0 < k) {ms ns : List Member} (p : MemberPairs ms ns) where
+  module _ (known : EveryPair (Known walls k) p) where
     met-same : meetsWallShare w ms ≡ meetsWallShare w ns
     unfolding meetsWallShare
     met-same =
-        let e = total-equal wallShear wallShear p (each (Known k) (λ m n u. wallShear m ≡ wallShear n) (λ m n u h. wall-shear-same k m n (h .1)) p known) in
+        let e = total-equal wallShear wallShear p (each (Known walls k) (λ m n u. wallShear m ≡ wallShear n) (λ m n u h. wall-shear-same walls k m n (h .1)) p known) in
         rw e
 
-    over-pair : (met : Bool) (m n : Member) (u : Unit {0}) → Known k m n u → over rules k met m ≡ true → over rules k met n ≡ true
+    over-pair : (met : Bool) (m n : Member) (u : Unit {0}) → Known walls k m n u → over rules k met m ≡ true → over rules k met n ≡ true
     unfolding findingBy
     over-pair met m n u h e =
-        over-kept k m n (h .1) (rules .limits) (good .limits) pos (h .0 .0) (h .0 .1) met e
+        over-kept walls k m n (h .1) (rules .limits) (good .limits) pos (h .0 .0) (h .0 .1) falls met e
 
     overs-same : (met : Bool) → EveryPair (λ m n u. over rules k met m ≡ true → over rules k met n ≡ true) p
-    overs-same met = each (Known k) (λ m n u. over rules k met m ≡ true → over rules k met n ≡ true) (over-pair met) p known
+    overs-same met = each (Known walls k) (λ m n u. over rules k met m ≡ true → over rules k met n ≡ true) (over-pair met) p known
 
     pub overs-carried : EveryPair (λ m n u. over rules k (meetsWallShare w ms) m ≡ true → over rules k (meetsWallShare w ns) n ≡ true) p
     overs-carried =
@@ -72,13 +72,13 @@ module _ (rules : Rules) (good : Orderly rules) (k w : ℕ) (pos : 0 < k) {ms ns
     unfolding axialTotal
     axial-carried =
         total-le (λ m. axialRatioD m .0) (λ m. axialRatioD m .0) p
-        (each (Known k) (λ m n u. axialRatioD m .0 ≤ axialRatioD n .0) (λ m n u h. nd-kept k m n (h .1) (rules .limits) (good .limits) pos (h .0 .0) (h .0 .1)) p known)
+        (each (Known walls k) (λ m n u. axialRatioD m .0 ≤ axialRatioD n .0) (λ m n u h. nd-kept walls k m n (h .1) (rules .limits) (good .limits) pos (h .0 .0) (h .0 .1)) p known)
 
     over-shear-carried : (met : Bool) → overShear rules k met ms ≤ overShear rules k met ns
     unfolding overShear
     over-shear-carried met =
         total-le (shearIfOver rules k met) (shearIfOver rules k met) p
-        (each (Known k) (λ m n u. shearIfOver rules k met m ≤ shearIfOver rules k met n) (λ m n u h. counted _ _ _ _ (over-pair met m n u h) (shear-kept k m n (h .1))) p known)
+        (each (Known walls k) (λ m n u. shearIfOver rules k met m ≤ shearIfOver rules k met n) (λ m n u h. counted _ _ _ _ (over-pair met m n u h) (shear-kept walls k m n (h .1))) p known)
 
     some-over-carried : (met : Bool) → someOver rules k met ms ≡ true → someOver rules k met ns ≡ true
     unfolding someOver
@@ -86,7 +86,7 @@ module _ (rules : Rules) (good : Orderly rules) (k w : ℕ) (pos : 0 < k) {ms ns
 
     weights-carried : EveryPair (λ m n u. weight (m .damage) ≤ weight (n .damage)) p
     weights-carried =
-        each (Known k) (λ m n u. weight (m .damage) ≤ weight (n .damage)) (λ m n u h. weight-mono (m .damage) (n .damage) (h .1 .damage) (h .0 .1 .damage)) p known
+        each (Known walls k) (λ m n u. weight (m .damage) ≤ weight (n .damage)) (λ m n u h. weight-mono (m .damage) (n .damage) (h .1 .damage) (h .0 .1 .damage)) p known
 
     risky-carried-at : (met : Bool) → meetsWallShare w ms ≡ met → meetsWallShare w ns ≡ met → 0 < length ms → storeyRisky rules k w ms ≡ true → storeyRisky rules k w ns ≡ true
     unfolding storeyRisky

@@ -58,8 +58,15 @@ MemberPairs ms ns = Pairing (λ m n. Unit) ms ns
 abbrev pub StoreyPairs : Survey → Survey → Type 0
 StoreyPairs a b = Pairing (λ f g. MemberPairs (f .members) (g .members)) (storeysMembers a) (storeysMembers b)
 
--- NOWHERE BETTER, of two partners m and n, judged with the level k
-pub record AtLeastAsSevere (k : ℕ) (m n : Member) : Type 0 where
+-- a condition on a wall and its partner, judged with the level k: "every wall has its partner's class" is the one of the mission
+abbrev pub WallCondition : Type 1
+WallCondition = ℕ → Member → Member → Type 0
+
+abbrev pub SameClass : WallCondition
+SameClass k m n = classOf k m ≡ classOf k n
+
+-- NOWHERE BETTER, of two partners m and n, judged with the level k, under a condition on walls
+pub record AtLeastAsSevere (walls : WallCondition) (k : ℕ) (m n : Member) : Type 0 where
   -- "equal sections, hoop spacings": fields 2 to 4 and 8 to 11
   pub long : m .long ≡ n .long
   pub short : m .short ≡ n .short
@@ -93,25 +100,25 @@ pub record AtLeastAsSevere (k : ℕ) (m n : Member) : Type 0 where
   pub vr : n .case .vr ≤ m .case .vr
   pub hoops : n .hoops ≤ m .hoops
   pub factor : n .factor ≤ m .factor
-  -- "every wall has its partner's class"
-  pub wall-class : isWall m ≡ true → classOf k m ≡ classOf k n
+  -- "every wall has its partner's class", or what else is asked of walls
+  pub wall-class : isWall m ≡ true → walls k m n
   -- "no strengthened column of the second is C unless its partner is"
   pub strengthened-c : isWall n ≡ false → n .strengthened ≡ 1 → classOf k n ≡ ColumnC → classOf k m ≡ ColumnC
 
 -- of two storeys that are partners, and their members' pairs
-pub record AtLeastAsSevereStorey (k : ℕ) (f g : StoreyMembers) (ms : MemberPairs (f .members) (g .members)) : Type 0 where
+pub record AtLeastAsSevereStorey (walls : WallCondition) (k : ℕ) (f g : StoreyMembers) (ms : MemberPairs (f .members) (g .members)) : Type 0 where
   -- "equal .. storey shears"
   pub shear : f .storey .shear ≡ g .storey .shear
-  pub members : EveryPair (λ m n u. AtLeastAsSevere k m n) ms
+  pub members : EveryPair (λ m n u. AtLeastAsSevere walls k m n) ms
 
 -- of two surveys and their storeys' pairs
-pub record NowhereBetter (a b : Survey) (pairs : StoreyPairs a b) : Type 0 where
+pub record NowhereBetter (walls : WallCondition) (a b : Survey) (pairs : StoreyPairs a b) : Type 0 where
   -- "equal knowledge level"
   pub knowledge : a .header .knowledge ≡ b .header .knowledge
   -- "no .. tilt": each against the one in the same field
   pub tilt1 : a .header .tilt1 ≤ b .header .tilt1
   pub tilt2 : a .header .tilt2 ≤ b .header .tilt2
-  pub storeys : EveryPair (λ f g ms. AtLeastAsSevereStorey (a .header .knowledge) f g ms) pairs
+  pub storeys : EveryPair (λ f g ms. AtLeastAsSevereStorey walls (a .header .knowledge) f g ms) pairs
 
 -- CARRIED, over the same pairs: "every member over in the first has a partner over in the second, every storey Risky in the first has a partner Risky in
 -- the second, and where the first building is Risky, so is the second"
@@ -121,10 +128,10 @@ pub record Carried (rules : Rules) (a b : Survey) (r q : BuildingAnswer) (pairs 
   pub building : buildingRiskyIn r ≡ true → buildingRiskyIn q ≡ true
 
 -- DEMAND 3: "Take any two accepted surveys and any way of pairing off all their storeys one to one, and each storey's members with those of its partner":
--- where the second is nowhere better, every finding is carried. By any rules, and by the published ones
-abbrev pub Demand3By : Rules → Type 0
-Demand3By rules =
-    (a b : Survey) (r q : BuildingAnswer) → Accepted rules a r → Accepted rules b q → (pairs : StoreyPairs a b) → NowhereBetter a b pairs → Carried rules a b r q pairs
+-- where the second is nowhere better, every finding is carried. Under any condition on walls and by any rules; then under the mission's and by the published ones
+abbrev pub Demand3By : WallCondition → Rules → Type 0
+Demand3By walls rules =
+    (a b : Survey) (r q : BuildingAnswer) → Accepted rules a r → Accepted rules b q → (pairs : StoreyPairs a b) → NowhereBetter walls a b pairs → Carried rules a b r q pairs
 
 abbrev pub Demand3 : Type 0
-Demand3 = Demand3By publishedRules
+Demand3 = Demand3By SameClass publishedRules

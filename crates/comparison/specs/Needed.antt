@@ -120,17 +120,17 @@ pair one other = record { one = one; other = other }
 
 unfoldable pub needed : List Pair
 needed =
-    -- equal knowledge level: a higher one lowers m, here of a column C with the limit 10,000
+    -- equal knowledge level: a higher one lowers m, here of a column C with the limit 100,000
     pair (neededColumn 90 1_000 100 0 0 0 95 60 0) (neededColumn 100 1_000 100 0 0 0 95 60 0)
     -- equal storey shears: more of it lowers the share, 351 of 1,000
     ∷ pair (neededColumn 100 1_000 100 0 0 0 999 60 0) (neededColumn 100 2_000 100 0 0 0 999 60 0)
     -- equal strengths: with f_cm 99 the hoops suffice, and the column is A and no longer B
     ∷ pair (neededColumn 100 1_000 100 1 0 0 500 1_000 0) (neededColumn 100 1_000 99 1 0 0 500 1_000 0)
-    -- no strengthened column C unless its partner is: B is cut to 7,500, C stands at 10,000
+    -- no strengthened column C unless its partner is: B is cut to 75,000, C stands at 100,000
     ∷ pair (neededColumn 100 1_000 100 0 1 7_000 80 100 0) (neededColumn 100 1_000 100 0 1 7_000 80 90 0)
     -- no rotation lower
     ∷ pair (neededColumn 100 1_000 100 0 0 0 0 60 99_999) (neededColumn 100 1_000 100 0 0 0 0 60 0)
-    -- every wall its partner's class: without boundary zone B is milder than A, 50,000 and 45,000
+    -- every wall its partner's class: without boundary zone B is milder than A, 500,000 and 450,000
     ∷ pair (neededWall 1_000 470 901 1_000 7_500) (neededWall 1_000 470 900 1_000 7_500)
     -- equal wall shears: with 400 of 1,000 the m test is dropped
     ∷ pair (neededWall 0 999 901 399 0) (neededWall 0 999 901 400 0)

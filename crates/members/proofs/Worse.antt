@@ -113,17 +113,10 @@ module _ (m m' : Member) (w : Worse m m') where
       (shear-back k)))
       e
 
-  columns-later : (k : ℕ) → isWall m ≡ false → isWall m' ≡ false → Later (classOf k m) (classOf k m')
+  -- a column's class can only come later
+  pub class-later : (k : ℕ) → isWall m ≡ false → Later (classOf k m) (classOf k m')
   unfolding classOf
-  columns-later k e e' = simp (e, e') (column-later (detailed m) (detailed m') k detailed-lost (w .ve) (w .vr))
-
-  -- a column's class can only come later; a wall's is the same where it is asked to be
-  pub class-later : (k : ℕ) → (isWall m ≡ true → classOf k m' ≡ classOf k m) → Later (classOf k m) (classOf k m')
-  class-later k f = go (isWall m) refl
-    where
-      go : (a : Bool) → isWall m ≡ a → Later (classOf k m) (classOf k m')
-      go true e = rw (f e) same
-      go false e = columns-later k e (wall-same ∙ e)
+  class-later k e = let e' : isWall m' ≡ false = wall-same ∙ e in simp (e, e') (column-later (detailed m) (detailed m') k detailed-lost (w .ve) (w .vr))
 
 -- over by tests: the m test where it is not dropped, or the rotation test
 over-tests : (d d' x x' y y' : Bool) → (d' ≡ true → d ≡ true) → (x ≡ true → x' ≡ true) → (y ≡ true → y' ≡ true) → ((not d && x) || y) ≡ true → ((not d' && x') || y') ≡ true
@@ -136,6 +129,11 @@ over-tests false false true x' false y' f g h e = rw (g refl)
 pub exceeds-stays : (d d' : Bool) {m m' l l' r r' a a' : ℕ} → (d' ≡ true → d ≡ true) → m ≤ m' → l' ≤ l → r ≤ r' → a' ≤ a → exceeds d m l r a ≡ true → exceeds d' m' l' r' a' ≡ true
 exceeds-stays d d' {m} {m'} {l} {l'} {r} {r'} {a} {a'} f hm hl hr ha e =
     over-tests d d' (ltb l m) (ltb l' m') (ltb a r) (ltb a' r') f (ltb-back hl hm) (ltb-back ha hr) e
+
+-- both limits of the second are at most those of the first
+pub record Fallen (s : LimitSet) (k : ℕ) (m m' : Member) : Type 0 where
+  pub moment : mLimit s k m' .0 ≤ mLimit s k m .0
+  pub rotation : rotationLimit s k m' .0 ≤ rotationLimit s k m .0
 
 -- limits at equal marks
 module _ (s : LimitSet) (o : orderedSet s ≡ true) {n n' v v' ρ ρ' : ℕ} (r : Ratios≤ n n' v v' ρ ρ') {q q' : Class} (l : Later q q') {zone zone' st st' : ℕ} (ez : zone ≡ zone') (es : st ≡ st') (h : st ≡ 1 → q' ≡ ColumnC → q ≡ ColumnC) where
@@ -158,15 +156,30 @@ module _ (s : LimitSet) (o : orderedSet s ≡ true) (k : ℕ) (level : 0 < k) (m
   pub nd-worse : axialRatioD m .0 ≤ axialRatioD m' .0
   nd-worse = rw (← w .fcm, ← w .area) (axial-mono (m .fcm) (m .area) (w .nd) (v .fcm-least) (v .area-least))
 
-  -- a member over in the first is over in the second: walls keep their class, and no strengthened column comes to C
-  pub over-stays : (met : Bool) → (isWall m ≡ true → classOf k m' ≡ classOf k m) → (m' .strengthened ≡ 1 → classOf k m' ≡ ColumnC → classOf k m ≡ ColumnC) → isOver s k met m ≡ true → isOver s k met m' ≡ true
-  unfolding isOver mLimit rotationLimit
-  over-stays met f g e =
-      let l = class-later m m' w k f in
+  -- the limits of the second are at most those of the first, where its class comes no earlier and no strengthened column comes to C
+  limits-fall : Later (classOf k m) (classOf k m') → (m' .strengthened ≡ 1 → classOf k m' ≡ ColumnC → classOf k m ≡ ColumnC) → Fallen s k m m'
+  unfolding mLimit rotationLimit
+  limits-fall l g =
       let h : m .strengthened ≡ 1 → classOf k m' ≡ ColumnC → classOf k m ≡ ColumnC = λ t. g (sym (w .strengthened) ∙ t) in
+      record {
+        moment = m-worse s o ratios-worse l (w .zone) (w .strengthened) h;
+        rotation = rotation-worse s o ratios-worse l (w .zone) (w .strengthened) h (m .factor) (m' .factor) (w .factor);
+      }
+
+  pub columns-fall : isWall m ≡ false → (m' .strengthened ≡ 1 → classOf k m' ≡ ColumnC → classOf k m ≡ ColumnC) → Fallen s k m m'
+  columns-fall e g = limits-fall (class-later m m' w k e) g
+
+  pub same-class-falls : classOf k m ≡ classOf k m' → Fallen s k m m'
+  same-class-falls e = limits-fall (rw e same) (λ t c. e ∙ c)
+
+-- a member over in the first is over in the second, where the limits are at most as high
+module _ (s : LimitSet) (k : ℕ) (level : 0 < k) (m m' : Member) (v' : Valid m') (w : Worse m m') where
+  pub over-stays : (met : Bool) → Fallen s k m m' → isOver s k met m ≡ true → isOver s k met m' ≡ true
+  unfolding isOver
+  over-stays met l e =
       exceeds-stays (mDropped k met m) (mDropped k met m') (dropped-back m m' w k met)
       (moment-mono k (w .me) (w .mp) level (v' .mp-least))
-      (m-worse s o ratios-worse l (w .zone) (w .strengthened) h)
+      (l .moment)
       (w .rotation)
-      (rotation-worse s o ratios-worse l (w .zone) (w .strengthened) h (m .factor) (m' .factor) (w .factor))
+      (l .rotation)
       e
