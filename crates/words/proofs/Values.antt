@@ -35,7 +35,7 @@ pub record Copied (values vs : List ℕ) (j : ℕ) : Type 0 where
   pub rest : (k : ℕ) → j ≤ k → k < fields M → getD vs k 0 ≡ missing
 
 pub copied-none : (values : List ℕ) → Copied values (replicate (fields M) missing) 0
-copied-none values = record { turn = omega arith; size = refl; front = λ k h. absurd (not-suc-le-zero h); rest = λ k h. all-missing fields M k }
+copied-none values = record { turn = omega arith; size = refl; front = λ k h. absurd (not-suc-le-zero h); rest = λ k h. all-missing (fields M) k }
 
 module _ (values vs : List ℕ) (j : ℕ) (c : Copied values vs j) where
   pub copied-next : j < fields M → j < length values → Copied values (set vs j (getD values j 0)) (j + 1)
