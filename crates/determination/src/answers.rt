@@ -11,6 +11,7 @@ use records::Member;
 use records::Storey;
 use records::numbers::member_of;
 use records::numbers::storey_of;
+use records::ranges::FIELDS_MOST;
 use report::ReportAnswer;
 use report::ReportJudgment;
 use report::refusal_line::write_refusal;
@@ -19,13 +20,13 @@ use report::refusal_line::write_refusal;
 pub(crate) fn blank_storey() -> Storey
     ensures { λ r. ⌜ r ≡ storeyBy (λ _. 0) ⌝ }
 {
-    storey_of([0; 26])
+    storey_of([0; FIELDS_MOST])
 }
 
 pub(crate) fn blank_member() -> Member
     ensures { λ r. ⌜ r ≡ memberBy (λ _. 0) ⌝ }
 {
-    member_of([0; 26])
+    member_of([0; FIELDS_MOST])
 }
 
 // The header that was read; of a refused file a blank one.

@@ -24,7 +24,7 @@ const STOREY_COUNT: usize = 6;
 
 const BUILDING_COUNT: usize = 3;
 
-// A member, given by its 26 numbers, judged with k and whether its storey meets the 0.40 condition.
+// A member, given by its numbers, judged with k and whether its storey meets the 0.40 condition.
 #[no_mangle]
 pub extern "C" fn llunareth_judge_member(k: u64, met: bool, values: &[u64], out: &mut [u64]) -> u64
     ensures { λ r. ⌜ r ≡ given memberCount (memberReturned k met (memberBy (handed (now (values .entry))))) (now (out .entry)) ⌝ }

@@ -51,15 +51,15 @@ writtenAt t s at j = isWritten (fieldAt t s at j)
 -- ---- the numbers of the fields
 pub record Sofar (t : Tag) (s : List ℕ) (at n : ℕ) (values : List ℕ) (written : Bool) (c j : ℕ) : Type 0 where
   pub count : n ≡ fields t
-  pub most : n ≤ 26
+  pub most : n ≤ fields M
   pub turn : j ≤ n
-  pub size : length values ≡ 26
+  pub size : length values ≡ fields M
   pub place : c ≡ at + 1 + 8 * j
   pub all-written : written ≡ everyBelow (writtenAt t s at) j
   pub held : (k : ℕ) → k < j → getD values k 0 ≡ valueAt t s at k
 
 module _ (t : Tag) (s : List ℕ) (at : ℕ) where
-  pub at-first : (n : ℕ) (values : List ℕ) → n ≡ fields t → n ≤ 26 → length values ≡ 26 → Sofar t s at n values true (at + 1) 0
+  pub at-first : (n : ℕ) (values : List ℕ) → n ≡ fields t → n ≤ fields M → length values ≡ fields M → Sofar t s at n values true (at + 1) 0
   at-first n values e h g =
       record {
         count = e;
@@ -95,13 +95,13 @@ module _ (t : Tag) (s : List ℕ) (at : ℕ) where
 -- ---- the first refusal among the fields
 pub record Looked (t : Tag) (s : List ℕ) (at n c j : ℕ) : Type 0 where
   pub count : n ≡ fields t
-  pub most : n ≤ 26
+  pub most : n ≤ fields M
   pub turn : j ≤ n
   pub place : c ≡ at + 1 + 8 * j
   pub clear : first 0 (λ r. r) (fieldFault t s at) j ≡ 0
 
 module _ (t : Tag) (s : List ℕ) (at : ℕ) where
-  pub looks-first : (n : ℕ) → n ≡ fields t → n ≤ 26 → Looked t s at n (at + 1) 0
+  pub looks-first : (n : ℕ) → n ≡ fields t → n ≤ fields M → Looked t s at n (at + 1) 0
   looks-first n e h =
       record { count = e; most = h; turn = omega arith; place = omega arith; clear = first-none 0 (λ r. r) (fieldFault t s at) }
 

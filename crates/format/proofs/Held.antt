@@ -6,7 +6,7 @@ use mathlib.Core.List.{List, [], _∷_}
 use mathlib.Core.Path.{_≡_, refl, ap, _∙_}
 use lib.ListN.{length, getD}
 use Rattle.format.specs.Lines.{valueAt, headerAt, storeyAt, memberAt}
-use Rattle.records.specs.Records.{headerBy, storeyBy, memberBy}
+use Rattle.records.specs.Records.{fields, headerBy, storeyBy, memberBy}
 use Rattle.records.specs.declared.Header.{Header}
 use Rattle.records.specs.declared.Storey.{Storey}
 use Rattle.records.specs.declared.Member.{Member}
@@ -18,7 +18,7 @@ header-same f g h = rw (h 0 (omega arith), h 1 (omega arith), h 2 (omega arith),
 pub storey-same : (f g : ℕ → ℕ) → ((j : ℕ) → j < 3 → f j ≡ g j) → storeyBy f ≡ storeyBy g
 storey-same f g h = rw (h 0 (omega arith), h 1 (omega arith), h 2 (omega arith))
 
-pub member-same : (f g : ℕ → ℕ) → ((j : ℕ) → j < 26 → f j ≡ g j) → memberBy f ≡ memberBy g
+pub member-same : (f g : ℕ → ℕ) → ((j : ℕ) → j < fields M → f j ≡ g j) → memberBy f ≡ memberBy g
 member-same f g h =
     rw (
       h 0 (omega arith),
@@ -58,7 +58,7 @@ module _ (s : List ℕ) (at : ℕ) (vs : List ℕ) where
   unfolding storeyAt
   storey-held h o e = e ∙ storey-same (λ (j : ℕ). getD vs j 0) (valueAt S s at) o
 
-  pub member-held : (h : Member) → ((j : ℕ) → j < 26 → getD vs j 0 ≡ valueAt M s at j) → h ≡ memberBy (λ (j : ℕ). getD vs j 0) → h ≡ memberAt s at
+  pub member-held : (h : Member) → ((j : ℕ) → j < fields M → getD vs j 0 ≡ valueAt M s at j) → h ≡ memberBy (λ (j : ℕ). getD vs j 0) → h ≡ memberAt s at
   unfolding memberAt
   member-held h o e = e ∙ member-same (λ (j : ℕ). getD vs j 0) (valueAt M s at) o
 

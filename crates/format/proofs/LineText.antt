@@ -12,7 +12,7 @@ use lib.Seq.{drop-cons, drop-drop, getD-drop}
 use borrow.Author.Tests.{eqb-true}
 use Rattle.records.specs.Notation.{pick}
 use Rattle.records.specs.Records.{Allowed, fields, headerValues, storeyValues, memberValues}
-use Rattle.format.specs.Lines.{tagByte, lineEnd, shaped, isForce, fieldAt, valueAt, faultIn, fieldFault, fieldsFault, headerAt, storeyAt, memberAt}
+use Rattle.format.specs.Lines.{tagByte, lineSize, lineEnd, shaped, isForce, fieldAt, valueAt, faultIn, fieldFault, fieldsFault, headerAt, storeyAt, memberAt}
 use Rattle.format.specs.Text.{fieldText, fieldsText, lineText}
 use Rattle.records.specs.declared.Tag.{Tag}
 use Rattle.records.specs.declared.Tag.the-variants.{B, S, M}
@@ -75,14 +75,14 @@ module _ (tag : Tag) (s : List ℕ) (at : ℕ) (c : Clean tag s at) where
       drop-cons s at 0 (omega arith)
       ∙ rw (g, i, fields-text tag s at (c .written) (fields tag) 0 (omega arith), z, drop-cons s (at + 1 + 8 * fields tag) 0 (omega arith), k, r) (simp append-assoc)
 
-pub header-text : (s : List ℕ) (at : ℕ) → Clean B s at → drop at s ≡ lineText B (headerValues (headerAt s at)) ++ drop (at + 50) s
+pub header-text : (s : List ℕ) (at : ℕ) → Clean B s at → drop at s ≡ lineText B (headerValues (headerAt s at)) ++ drop (at + lineSize B) s
 unfolding headerAt
-header-text s at c = let e : at + 50 ≡ at + 2 + 8 * fields B = omega arith in rw e (line-text B s at c)
+header-text s at c = let e : at + lineSize B ≡ at + 2 + 8 * fields B = omega arith in rw e (line-text B s at c)
 
-pub storey-text : (s : List ℕ) (at : ℕ) → Clean S s at → drop at s ≡ lineText S (storeyValues (storeyAt s at)) ++ drop (at + 26) s
+pub storey-text : (s : List ℕ) (at : ℕ) → Clean S s at → drop at s ≡ lineText S (storeyValues (storeyAt s at)) ++ drop (at + lineSize S) s
 unfolding storeyAt
-storey-text s at c = let e : at + 26 ≡ at + 2 + 8 * fields S = omega arith in rw e (line-text S s at c)
+storey-text s at c = let e : at + lineSize S ≡ at + 2 + 8 * fields S = omega arith in rw e (line-text S s at c)
 
-pub member-text : (s : List ℕ) (at : ℕ) → Clean M s at → drop at s ≡ lineText M (memberValues (memberAt s at)) ++ drop (at + 210) s
+pub member-text : (s : List ℕ) (at : ℕ) → Clean M s at → drop at s ≡ lineText M (memberValues (memberAt s at)) ++ drop (at + lineSize M) s
 unfolding memberAt
-member-text s at c = let e : at + 210 ≡ at + 2 + 8 * fields M = omega arith in rw e (line-text M s at c)
+member-text s at c = let e : at + lineSize M ≡ at + 2 + 8 * fields M = omega arith in rw e (line-text M s at c)

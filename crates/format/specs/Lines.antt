@@ -12,6 +12,10 @@ tagByte B = 66
 tagByte S = 83
 tagByte M = 77
 
+-- how many bytes a line takes: its tag, its fields of 8 columns and LF
+abbrev pub lineSize : Tag → ℕ
+lineSize tag = 2 + 8 * fields tag
+
 -- how many bytes stand before the first LF: all of them where there is none
 unfoldable pub lineEnd : List ℕ → ℕ
 lineEnd [] = 0

@@ -17,8 +17,19 @@ use records::LoadCase;
 use records::Member;
 use records::Storey;
 use records::Tag;
+use records::ranges::FIELDS_MOST;
+use records::ranges::HEADER_FIELDS;
+use records::ranges::MEMBER_FIELDS;
+use records::ranges::STOREY_FIELDS;
 use records::ranges::field_count;
 use records::ranges::range_allows;
+
+// How many bytes a line takes: its tag, its fields of 8 columns and LF.
+pub const HEADER_SIZE: usize = 2 + 8 * HEADER_FIELDS;
+
+pub const STOREY_SIZE: usize = 2 + 8 * STOREY_FIELDS;
+
+pub const MEMBER_SIZE: usize = 2 + 8 * MEMBER_FIELDS;
 
 pub fn tag_byte(tag: Tag) -> u8
     ensures { λ r. ⌜ r ≡ tagByte tag ⌝ }
@@ -120,7 +131,7 @@ fn range_fault(tag: Tag, j: usize, v: u64, storeys: u64) -> u64
 // The numbers of a line's fields, in order, and whether all of them are written as they must be.
 pub struct Fields {
     pub written: bool,
-    pub values: [u64; 26],
+    pub values: [u64; FIELDS_MOST],
 }
 
 fn written_too(written: bool, f: Field) -> bool
@@ -148,7 +159,7 @@ fn fields_held(s: &[u8], at: usize, tag: Tag) -> Fields
     ensures { λ r. ⌜ FieldsHeld tag (now (s .entry)) at r ⌝ }
 {
     let n = field_count(tag);
-    let mut values = [0u64; 26];
+    let mut values = [0u64; FIELDS_MOST];
     let mut written = true;
     let mut c = Cursor { at: at + 1 };
     let mut j = 0;
@@ -169,7 +180,7 @@ pub fn read_fields(s: &[u8], at: usize, tag: Tag) -> Fields
     if !holds_fields(s, at, tag) {
         return Fields {
             written: false,
-            values: [0u64; 26],
+            values: [0u64; FIELDS_MOST],
         };
     }
     fields_held(s, at, tag)

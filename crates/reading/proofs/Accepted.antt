@@ -11,7 +11,7 @@ use lib.Seq.{drop-cons, set-at, take-at, drop-drop, drop-append-add, length-take
 use borrow.Author.Tests.{eqb-true, ltb-true, ltb-false}
 use Rattle.records.specs.Notation.{pick, inOrder, listed}
 use Rattle.records.specs.Records.{storeyFault, memberFault, repeated}
-use Rattle.format.specs.Lines.{shaped, fieldsFault, headerAt}
+use Rattle.format.specs.Lines.{lineSize, shaped, fieldsFault, headerAt}
 use Rattle.reading.specs.Survey.{lineStart, lineNumber, membersBefore, storey, memberStart, member, shape, unheld, headerLineFault, storeyLineFault, memberLineFault, noFault, at-line, firstFault, membersFault, storeysFault, trailing, surveyFault, firstMembers, survey}
 use Rattle.reading.specs.Filling.{placed, filledMembers}
 use Rattle.reading.specs.Checks.{Fits}
@@ -45,14 +45,14 @@ line-clear l zero e = refl
 line-clear l (suc r) e = simp eqb·suc-zero at e
 
 module _ (s : List ℕ) (rows i : ℕ) where
-  storey-good : storeyLineFault s rows i ≡ 0 → (lineStart i (membersBefore s i) + 26 ≤ length s) × (i < rows) × (storey s i .count ≤ 200)
+  storey-good : storeyLineFault s rows i ≡ 0 → (lineStart i (membersBefore s i) + lineSize S ≤ length s) × (i < rows) × (storey s i .count ≤ 200)
   unfolding storeyLineFault
   storey-good e =
       let at = lineStart i (membersBefore s i) in
       let a = five-clear (shape S s at) (unheld i rows) (fieldsFault S s at) (storeyFault (storey s i)) (repeated (λ k. storey s k .number) i) e in
       (omega (arith, shaped-fits S s at (test-clear (shaped S (drop at s)) 1 (omega arith) (a .0))), ltb-true i rows (test-clear (ltb i rows) 8 (omega arith) (a .1)), count-most (storey s i) (a .3))
 
-  member-good : (j : ℕ) → memberLineFault s rows i j ≡ 0 → (memberStart s i j + 210 ≤ length s) × (membersBefore s i + j < rows)
+  member-good : (j : ℕ) → memberLineFault s rows i j ≡ 0 → (memberStart s i j + lineSize M ≤ length s) × (membersBefore s i + j < rows)
   unfolding memberLineFault
   member-good j e =
       let at = memberStart s i j in
@@ -68,10 +68,10 @@ module _ (s : List ℕ) (srows mrows i : ℕ) (e : storeysFault s srows mrows i 
       let c = step-clear (λ (f : Fault). f .number) (eqb (f .number) 0) (membersFault s mrows i) f refl e in
       (c .1, c .0)
 
-  pub storey-held : (lineStart i (membersBefore s i) + 26 ≤ length s) × (i < srows) × (storey s i .count ≤ 200)
+  pub storey-held : (lineStart i (membersBefore s i) + lineSize S ≤ length s) × (i < srows) × (storey s i .count ≤ 200)
   storey-held = storey-good s srows i (line-clear _ _ (clear-both .0))
 
-  member-held : (j : ℕ) → j < storey s i .count → (memberStart s i j + 210 ≤ length s) × (membersBefore s i + j < mrows)
+  member-held : (j : ℕ) → j < storey s i .count → (memberStart s i j + lineSize M ≤ length s) × (membersBefore s i + j < mrows)
   unfolding membersFault
   member-held j h = member-good s mrows i j (line-clear _ _ (first-clear noFault (λ f. f .number) _ (storey s i .count) j (clear-both .1) h))
 

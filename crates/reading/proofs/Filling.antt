@@ -7,7 +7,8 @@ use mathlib.Core.List.{List}
 use mathlib.Core.Logic.{⊎-elim}
 use mathlib.Core.Path.{_≡_, refl, ap, sym, _∙_}
 use lib.ListN.{length}
-use Rattle.format.specs.Lines.{storeyAt, memberAt}
+use Rattle.records.specs.declared.Tag.the-variants.{S}
+use Rattle.format.specs.Lines.{lineSize, storeyAt, memberAt}
 use Rattle.reading.specs.Survey.{lineStart, membersBefore, storey, member}
 use Rattle.reading.specs.Filling.{placed, filledMembers}
 use Rattle.reading.specs.Checks.{Fits}
@@ -40,7 +41,7 @@ module _ (s : List ℕ) (n : ℕ) (f : Fits s n) where
   before-small (suc i) h = omega (arith, before-small i (omega arith), f .counts i h)
 
   module _ (i m : ℕ) (h : i < n) (e : m ≡ membersBefore s i) where
-    pub storey-lies : (i ≤ 10) × (m ≤ 2000) × (lineStart i m + 26 ≤ length s)
+    pub storey-lies : (i ≤ 10) × (m ≤ 2000) × (lineStart i m + lineSize S ≤ length s)
     storey-lies =
         let b = before-small i (omega arith) in
         let l = f .lines i h in

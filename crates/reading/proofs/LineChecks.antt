@@ -32,7 +32,7 @@ module _ (s : List ℕ) (at : ℕ) (f : Fields) where
   clear-if : (h : Member) → FieldsHeld M s at f → h ≡ memberAt s at → f .written ≡ true → memberFault h ≡ 0 → fieldsFault M s at ≡ 0
   unfolding memberAt
   clear-if h o e w z =
-      all-clear M s at (memberValues (memberAt s at)) (from-first (valueAt M s at) 26) (member-ranged (memberAt s at) (rw e at z)) (sym (o .written) ∙ w)
+      all-clear M s at (memberValues (memberAt s at)) (from-first (valueAt M s at) (fields M)) (member-ranged (memberAt s at) (rw e at z)) (sym (o .written) ∙ w)
 
   pub member-good : (h : Member) (r : MemberLine) → FieldsOf M s at f → h ≡ memberBy (λ (j : ℕ). getD (f .values) j 0) → f .written ≡ true → r .fault ≡ memberFault h → r .number ≡ h .number → MemberGood s at r
   member-good h r o e w g q =

@@ -61,7 +61,7 @@ storey-most st = pick-most (everyBelow (inRange S (storeyValues st)) 3) 0 3 8 (o
 
 member-most : (m : Member) → memberFault m ≤ 8
 unfolding memberFault
-member-most m = pick-most (everyBelow (inRange M (memberValues m)) 26) _ 3 8 (pick-most (leb (m .short) (m .long)) 0 4 8 (omega arith) (omega arith)) (omega arith)
+member-most m = pick-most (everyBelow (inRange M (memberValues m)) (fields M)) _ 3 8 (pick-most (leb (m .short) (m .long)) 0 4 8 (omega arith) (omega arith)) (omega arith)
 
 header-line-most : (s : List ℕ) → headerLineFault s ≤ 8
 unfolding headerLineFault

@@ -3,13 +3,12 @@
 use Rattle.records.specs.Notation.{ℕ, zero, suc, _+_, _*_, List, [], _∷_, _++_, ltb, eqb, length, drop, pick, inOrder, first, listed}
 use Rattle.records.specs.declared.{Header.Header, Storey.Storey, Member.Member, Tag.Tag, Tag.the-variants.B, Tag.the-variants.S, Tag.the-variants.M}
 use Rattle.records.specs.Records.{headerFault, storeyFault, memberFault, repeated}
-use Rattle.format.specs.Lines.{shaped, fieldsFault, headerAt, storeyAt, memberAt}
+use Rattle.format.specs.Lines.{lineSize, shaped, fieldsFault, headerAt, storeyAt, memberAt}
 use Rattle.reading.specs.declared.survey.Fault.{Fault}
 
--- "one B, then each S followed by its M lines": where the line begins before which stand the B line (50 bytes), i S lines (26) and
--- m M lines (210)
+-- "one B, then each S followed by its M lines": where the line begins before which stand the B line, i S lines and m M lines
 abbrev pub lineStart : ℕ → ℕ → ℕ
-lineStart i m = 50 + 26 * i + 210 * m
+lineStart i m = lineSize B + lineSize S * i + lineSize M * m
 
 -- the number of that line, from 1
 abbrev pub lineNumber : ℕ → ℕ → ℕ

@@ -7,8 +7,12 @@ ghost use lib.ListN.{length, getD};
 ghost use Rattle.records.specs.Notation.{pick, anyBelow};
 ghost use Rattle.reading.specs.Checks.{HeaderLineOf, StoreyLineOf, MemberGood, MemberLineOf, MembersDue, CheckedOf};
 ghost use Rattle.reading.specs.Survey.{lineStart, membersFault, survey};
-ghost use Rattle.format.specs.Lines.{storeyAt, memberAt};
+ghost use Rattle.records.specs.declared.Tag.the-variants.{S, M};
+ghost use Rattle.format.specs.Lines.{lineSize, storeyAt, memberAt};
 ghost use Rattle.reading.specs.Answer.{tells, told, storeysTold};
+use format::lines::HEADER_SIZE;
+use format::lines::MEMBER_SIZE;
+use format::lines::STOREY_SIZE;
 use format::lines::fields_fault;
 use format::lines::is_framed;
 use format::lines::is_shaped;
@@ -208,7 +212,7 @@ pub(crate) fn line_start(i: usize, m: usize) -> usize
     requires { ⌜ (i ≤ 11) × (m ≤ 2200) ⌝ }
     ensures { λ r. ⌜ r ≡ lineStart i m ⌝ }
 {
-    50 + 26 * i + 210 * m
+    HEADER_SIZE + STOREY_SIZE * i + MEMBER_SIZE * m
 }
 
 // The first refusal of the M lines of storey i, before which m M lines stand.
@@ -338,7 +342,7 @@ pub(crate) fn check(s: &[u8], srows: usize, mrows: usize) -> Reading
 
 // The storey of the S line before which stand i S lines and m M lines.
 pub(crate) fn storey_at(s: &[u8], i: usize, m: usize) -> Storey
-    requires { ⌜ (i ≤ 10) × (m ≤ 2000) × (lineStart i m + 26 ≤ length (now s)) ⌝ }
+    requires { ⌜ (i ≤ 10) × (m ≤ 2000) × (lineStart i m + lineSize S ≤ length (now s)) ⌝ }
     ensures { λ r. ⌜ r ≡ storeyAt (now (s .entry)) (lineStart i m) ⌝ }
 {
     let f = read_fields(s, line_start(i, m), Tag::S);
@@ -348,7 +352,7 @@ pub(crate) fn storey_at(s: &[u8], i: usize, m: usize) -> Storey
 
 // The member of the M line before which stand i S lines and m M lines.
 pub(crate) fn member_at(s: &[u8], i: usize, m: usize) -> Member
-    requires { ⌜ (i ≤ 10) × (m ≤ 2000) × (lineStart i m + 210 ≤ length (now s)) ⌝ }
+    requires { ⌜ (i ≤ 10) × (m ≤ 2000) × (lineStart i m + lineSize M ≤ length (now s)) ⌝ }
     ensures { λ r. ⌜ r ≡ memberAt (now (s .entry)) (lineStart i m) ⌝ }
 {
     let f = read_fields(s, line_start(i, m), Tag::M);

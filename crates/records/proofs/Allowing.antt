@@ -15,23 +15,6 @@ use Rattle.records.specs.declared.Tag.the-variants.{B, S, M}
 pub past : (rs : List Allowed) (j v : ℕ) → length rs ≤ j → (leb 1 v && leb v 0) ≡ allows (getD rs j never) v
 past rs j v h = rw (List·getD-eq-default rs never h)
 
--- the fields of a B line that have the range of a tilt
-pub tilts : (ns j v : ℕ) → j < 6 → (j ≡ 0 → ⊥) → (j ≡ 1 → ⊥) → (j ≡ 2 → ⊥) → (j ≡ 5 → ⊥) → (leb 0 v && leb v 9_999_999) ≡ allows (getD (headerRanges ns) j never) v
-tilts ns zero v h a b c d = absurd (a refl)
-tilts ns (suc zero) v h a b c d = absurd (b refl)
-tilts ns (suc (suc zero)) v h a b c d = absurd (c refl)
-tilts ns (suc (suc (suc zero))) v h a b c d = refl
-tilts ns (suc (suc (suc (suc zero)))) v h a b c d = refl
-tilts ns (suc (suc (suc (suc (suc zero))))) v h a b c d = absurd (d refl)
-tilts ns (suc (suc (suc (suc (suc (suc j)))))) v h a b c d = let z : ⊥ = omega arith in absurd z
-
--- the fields of an S line before its count
-pub seven : (j v : ℕ) → j < 3 → (j ≡ 2 → ⊥) → (leb 1 v && leb v 9_999_999) ≡ allows (getD storeyRanges j never) v
-seven zero v h a = refl
-seven (suc zero) v h a = refl
-seven (suc (suc zero)) v h a = absurd (a refl)
-seven (suc (suc (suc j))) v h a = let z : ⊥ = omega arith in absurd z
-
 -- ranges by a table of least and a table of most numbers
 abbrev pub table : List ℕ → List ℕ → List Allowed
 table [] ms = []
@@ -54,12 +37,24 @@ highs [] = []
 highs (between l m ∷ rs) = m ∷ highs rs
 highs (either a b ∷ rs) = b ∷ highs rs
 
--- the code's two tables are those of the member's ranges
-pub in-tables : (j v : ℕ) → j < 26 → (leb (getD (lows memberRanges) j 0) v && leb v (getD (highs memberRanges) j 0)) ≡ allows (getD memberRanges j never) v
-in-tables j v h = at-table (lows memberRanges) (highs memberRanges) j v h refl
+-- the code's two tables are those of the ranges, of the B line beside k and the number of S lines
+pub in-header-tables : (ns j v : ℕ) → j < fields B → (j ≡ 0 → ⊥) → (j ≡ 5 → ⊥) → (leb (getD (lows (headerRanges 99)) j 0) v && leb v (getD (highs (headerRanges 99)) j 0)) ≡ allows (getD (headerRanges ns) j never) v
+in-header-tables ns zero v h a b = absurd (a refl)
+in-header-tables ns (suc zero) v h a b = refl
+in-header-tables ns (suc (suc zero)) v h a b = refl
+in-header-tables ns (suc (suc (suc zero))) v h a b = refl
+in-header-tables ns (suc (suc (suc (suc zero)))) v h a b = refl
+in-header-tables ns (suc (suc (suc (suc (suc zero))))) v h a b = absurd (b refl)
+in-header-tables ns (suc (suc (suc (suc (suc (suc j)))))) v h a b = let z : ⊥ = omega arith in absurd z
+
+pub in-storey-tables : (j v : ℕ) → j < fields S → (leb (getD (lows storeyRanges) j 0) v && leb v (getD (highs storeyRanges) j 0)) ≡ allows (getD storeyRanges j never) v
+in-storey-tables j v h = at-table (lows storeyRanges) (highs storeyRanges) j v h refl
+
+pub in-member-tables : (j v : ℕ) → j < fields M → (leb (getD (lows memberRanges) j 0) v && leb v (getD (highs memberRanges) j 0)) ≡ allows (getD memberRanges j never) v
+in-member-tables j v h = at-table (lows memberRanges) (highs memberRanges) j v h refl
 
 -- no line has more fields than an M line
-pub fields-most : (t : Tag) → fields t ≤ 26
+pub fields-most : (t : Tag) → fields t ≤ fields M
 fields-most B = omega arith
 fields-most S = omega arith
 fields-most M = omega arith

@@ -1,4 +1,5 @@
 -- The crate's structs, for walks.
+use Prim.Native.Nat.{ℕ}
 use Rattle.walk.proofs.Slice.{Str}
 use Rattle.records.proofs.Header as H
 use Rattle.records.proofs.Header.Laws as H′
@@ -15,3 +16,10 @@ member = record { T = M.the-type; laws = M′.the-laws; copies = M′.the-copy; 
 
 abbrev pub storey : Str
 storey = record { T = T.the-type; laws = T′.the-laws; copies = T′.the-copy; plain = T′.the-plain }
+
+-- how many bytes a record of a lent row takes
+abbrev pub member-bytes : ℕ
+member-bytes = 208
+
+abbrev pub storey-bytes : ℕ
+storey-bytes = 24

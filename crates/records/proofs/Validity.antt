@@ -30,8 +30,8 @@ least a b v e = leb-true a v (and-left (leb a v) (leb v b) e)
 pub valid : (m : Member) → memberFault m ≡ 0 → Valid m
 unfolding memberFault
 valid m e =
-    let o = clear (everyBelow (inRange M (memberValues m)) 26) _ 3 e (omega arith) in
-    let f : (j : ℕ) → j < 26 → inRange M (memberValues m) j ≡ true = λ j h. every-at (inRange M (memberValues m)) 26 j (o .0) h in
+    let o = clear (everyBelow (inRange M (memberValues m)) (fields M)) _ 3 e (omega arith) in
+    let f : (j : ℕ) → j < fields M → inRange M (memberValues m) j ≡ true = λ j h. every-at (inRange M (memberValues m)) (fields M) j (o .0) h in
     record {
       number = most _ _ _ (f 0 (omega arith));
       long = most _ _ _ (f 1 (omega arith));
@@ -87,7 +87,7 @@ storey-ranged st e = clear (everyBelow (inRange S (storeyValues st)) 3) _ 3 e (o
 
 pub member-ranged : (m : Member) → memberFault m ≡ 0 → Ranged M (memberValues m)
 unfolding memberFault
-member-ranged m e = clear (everyBelow (inRange M (memberValues m)) 26) _ 3 e (omega arith) .0
+member-ranged m e = clear (everyBelow (inRange M (memberValues m)) (fields M)) _ 3 e (omega arith) .0
 
 -- a good storey has 200 members at most
 pub count-most : (st : Storey) → storeyFault st ≡ 0 → st .count ≤ 200

@@ -102,15 +102,15 @@ memberBy f =
 -- the first refusal of a record by itself, 0 where there is none.
 -- A header: 3, a field outside its range; 7, H_T > 30,000 or n_s > 10
 unfoldable pub headerFault : Header → ℕ
-headerFault h = pick (everyBelow (inRange B (headerValues h)) 6) (pick (leb (h .height) 30_000 && leb (h .storeys) 10) 0 7) 3
+headerFault h = pick (everyBelow (inRange B (headerValues h)) (fields B)) (pick (leb (h .height) 30_000 && leb (h .storeys) 10) 0 7) 3
 
 -- a storey: 3
 unfoldable pub storeyFault : Storey → ℕ
-storeyFault s = pick (everyBelow (inRange S (storeyValues s)) 3) 0 3
+storeyFault s = pick (everyBelow (inRange S (storeyValues s)) (fields S)) 0 3
 
 -- a member: 3; 4, short side above long side
 unfoldable pub memberFault : Member → ℕ
-memberFault m = pick (everyBelow (inRange M (memberValues m)) 26) (pick (leb (m .short) (m .long)) 0 4) 3
+memberFault m = pick (everyBelow (inRange M (memberValues m)) (fields M)) (pick (leb (m .short) (m .long)) 0 4) 3
 
 -- 5, a number repeated: that of record k is one of those before it
 abbrev pub repeated : (ℕ → ℕ) → ℕ → ℕ

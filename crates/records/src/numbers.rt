@@ -7,8 +7,9 @@ use crate::Header;
 use crate::LoadCase;
 use crate::Member;
 use crate::Storey;
+use crate::ranges::FIELDS_MOST;
 
-pub fn header_of(vs: [u64; 26]) -> Header
+pub fn header_of(vs: [u64; FIELDS_MOST]) -> Header
     ensures { λ r. ⌜ r ≡ headerBy (λ (j : ℕ). getD vs j 0) ⌝ }
 {
     Header {
@@ -21,7 +22,7 @@ pub fn header_of(vs: [u64; 26]) -> Header
     }
 }
 
-pub fn storey_of(vs: [u64; 26]) -> Storey
+pub fn storey_of(vs: [u64; FIELDS_MOST]) -> Storey
     ensures { λ r. ⌜ r ≡ storeyBy (λ (j : ℕ). getD vs j 0) ⌝ }
 {
     Storey {
@@ -31,7 +32,7 @@ pub fn storey_of(vs: [u64; 26]) -> Storey
     }
 }
 
-pub fn member_of(vs: [u64; 26]) -> Member
+pub fn member_of(vs: [u64; FIELDS_MOST]) -> Member
     ensures { λ r. ⌜ r ≡ memberBy (λ (j : ℕ). getD vs j 0) ⌝ }
 {
     let case = LoadCase {

@@ -11,7 +11,26 @@ use crate::Member;
 use crate::Storey;
 use crate::Tag;
 
-const MEMBER_LEAST: [u64; 26] = [
+// How many fields a line has. The numbers of a line stand in an array that holds those of any.
+pub const HEADER_FIELDS: usize = 6;
+
+pub const STOREY_FIELDS: usize = 3;
+
+pub const MEMBER_FIELDS: usize = 26;
+
+pub const FIELDS_MOST: usize = MEMBER_FIELDS;
+
+// The least and the greatest number that each field of a line may hold. Two fields of the B line are not ranges of this kind: k is one of its two, and no more S lines
+// follow than the building has storeys.
+const HEADER_LEAST: [u64; HEADER_FIELDS] = [90, 1, 1, 0, 0, 1];
+
+const HEADER_MOST: [u64; HEADER_FIELDS] = [100, 99_999, 99, 9_999_999, 9_999_999, 99];
+
+const STOREY_LEAST: [u64; STOREY_FIELDS] = [1, 1, 1];
+
+const STOREY_MOST: [u64; STOREY_FIELDS] = [9_999_999, 9_999_999, 200];
+
+const MEMBER_LEAST: [u64; MEMBER_FIELDS] = [
     1,
     1,
     1,
@@ -40,7 +59,7 @@ const MEMBER_LEAST: [u64; 26] = [
     0,
 ];
 
-const MEMBER_MOST: [u64; 26] = [
+const MEMBER_MOST: [u64; MEMBER_FIELDS] = [
     9999999,
     99999,
     99999,
@@ -91,40 +110,31 @@ fn either(v: u64, a: u64, b: u64) -> bool
 fn header_allows(j: usize, v: u64, storeys: u64) -> bool
     ensures { λ r. ⌜ r ≡ allows (getD (headerRanges storeys) j never) v ⌝ }
 {
-    if 6 <= j {
+    if HEADER_FIELDS <= j {
         return between(v, 1, 0);
     }
     if j == 0 {
-        return either(v, 90, 100);
-    }
-    if j == 1 {
-        return between(v, 1, 99999);
-    }
-    if j == 2 {
-        return between(v, 1, 99);
+        return either(v, HEADER_LEAST[0], HEADER_MOST[0]);
     }
     if j == 5 {
-        return between(v, 1, storeys);
+        return between(v, HEADER_LEAST[5], storeys);
     }
-    between(v, 0, 9999999)
+    between(v, HEADER_LEAST[j], HEADER_MOST[j])
 }
 
 fn storey_allows(j: usize, v: u64) -> bool
     ensures { λ r. ⌜ r ≡ allows (getD storeyRanges j never) v ⌝ }
 {
-    if 3 <= j {
+    if STOREY_FIELDS <= j {
         return between(v, 1, 0);
     }
-    if j == 2 {
-        return between(v, 1, 200);
-    }
-    between(v, 1, 9999999)
+    between(v, STOREY_LEAST[j], STOREY_MOST[j])
 }
 
 fn member_allows(j: usize, v: u64) -> bool
     ensures { λ r. ⌜ r ≡ allows (getD memberRanges j never) v ⌝ }
 {
-    if 26 <= j {
+    if MEMBER_FIELDS <= j {
         return between(v, 1, 0);
     }
     between(v, MEMBER_LEAST[j], MEMBER_MOST[j])
@@ -145,14 +155,14 @@ pub fn field_count(tag: Tag) -> usize
     ensures { λ r. ⌜ r ≡ fields tag ⌝ }
 {
     match tag {
-        Tag::B => 6,
-        Tag::S => 3,
-        Tag::M => 26,
+        Tag::B => HEADER_FIELDS,
+        Tag::S => STOREY_FIELDS,
+        Tag::M => MEMBER_FIELDS,
     }
 }
 
 // Every field of a record is in its range; what stands after the line's fields does not count.
-fn in_ranges(tag: Tag, vs: [u64; 26]) -> bool
+fn in_ranges(tag: Tag, vs: [u64; FIELDS_MOST]) -> bool
     ensures { λ r. ⌜ r ≡ everyBelow (inRange tag vs) (fields tag) ⌝ }
 {
     let n = field_count(tag);
@@ -171,7 +181,7 @@ fn in_ranges(tag: Tag, vs: [u64; 26]) -> bool
 pub fn header_fault(h: Header) -> u64
     ensures { λ r. ⌜ r ≡ headerFault h ⌝ }
 {
-    let mut vs = [0u64; 26];
+    let mut vs = [0u64; FIELDS_MOST];
     vs[0] = h.knowledge;
     vs[1] = h.height;
     vs[2] = h.storeys;
@@ -194,7 +204,7 @@ pub fn header_fault(h: Header) -> u64
 pub fn storey_fault(s: Storey) -> u64
     ensures { λ r. ⌜ r ≡ storeyFault s ⌝ }
 {
-    let mut vs = [0u64; 26];
+    let mut vs = [0u64; FIELDS_MOST];
     vs[0] = s.number;
     vs[1] = s.shear;
     vs[2] = s.count;
@@ -205,13 +215,13 @@ pub fn storey_fault(s: Storey) -> u64
 }
 
 // Every field of a member is in its range: the tables are laid out once.
-fn member_in_ranges(vs: [u64; 26]) -> bool
-    ensures { λ r. ⌜ r ≡ everyBelow (inRange M vs) 26 ⌝ }
+fn member_in_ranges(vs: [u64; FIELDS_MOST]) -> bool
+    ensures { λ r. ⌜ r ≡ everyBelow (inRange M vs) (fields M) ⌝ }
 {
     let least = MEMBER_LEAST;
     let most = MEMBER_MOST;
     let mut j = 0;
-    while j < 26 {
+    while j < MEMBER_FIELDS {
         if !between(vs[j], least[j], most[j]) {
             return false;
         }

@@ -8,6 +8,8 @@ use mathlib.Core.Path.{_≡_, refl, sym, _∙_}
 use lib.ListN.{length, getD, set, replicate, length-set, List·getD-eq-default}
 use lib.Seq.{getD-set-same, getD-set-other}
 use borrow.Author.Count.{below-more}
+use Rattle.records.specs.Records.{fields}
+use Rattle.records.specs.declared.Tag.the-variants.{M}
 use Rattle.words.specs.Words.{missing, handed}
 
 lt-or-le : (k j : ℕ) → (k < j) ⊎ (j ≤ k)
@@ -27,16 +29,16 @@ all-missing (suc n) zero h = refl
 all-missing (suc n) (suc k) h = all-missing n k (omega arith)
 
 pub record Copied (values vs : List ℕ) (j : ℕ) : Type 0 where
-  pub turn : j ≤ 26
-  pub size : length vs ≡ 26
+  pub turn : j ≤ fields M
+  pub size : length vs ≡ fields M
   pub front : (k : ℕ) → k < j → getD vs k 0 ≡ handed values k
-  pub rest : (k : ℕ) → j ≤ k → k < 26 → getD vs k 0 ≡ missing
+  pub rest : (k : ℕ) → j ≤ k → k < fields M → getD vs k 0 ≡ missing
 
-pub copied-none : (values : List ℕ) → Copied values (replicate 26 missing) 0
-copied-none values = record { turn = omega arith; size = refl; front = λ k h. absurd (not-suc-le-zero h); rest = λ k h. all-missing 26 k }
+pub copied-none : (values : List ℕ) → Copied values (replicate (fields M) missing) 0
+copied-none values = record { turn = omega arith; size = refl; front = λ k h. absurd (not-suc-le-zero h); rest = λ k h. all-missing (fields M) k }
 
 module _ (values vs : List ℕ) (j : ℕ) (c : Copied values vs j) where
-  pub copied-next : j < 26 → j < length values → Copied values (set vs j (getD values j 0)) (j + 1)
+  pub copied-next : j < fields M → j < length values → Copied values (set vs j (getD values j 0)) (j + 1)
   copied-next h g =
       record {
         turn = omega arith;
@@ -47,9 +49,9 @@ module _ (values vs : List ℕ) (j : ℕ) (c : Copied values vs j) where
         rest = λ k l m. getD-set-other vs j k (getD values j 0) 0 (λ p. let z : ⊥ = omega arith in absurd z) ∙ c .rest k (omega arith) m;
       }
 
-  pub copied-all : 26 ≤ j → (k : ℕ) → k < 26 → getD vs k 0 ≡ handed values k
+  pub copied-all : fields M ≤ j → (k : ℕ) → k < fields M → getD vs k 0 ≡ handed values k
   copied-all h k l = c .front k (omega arith)
 
-  pub copied-short : length values ≤ j → (k : ℕ) → k < 26 → getD vs k 0 ≡ handed values k
+  pub copied-short : length values ≤ j → (k : ℕ) → k < fields M → getD vs k 0 ≡ handed values k
   copied-short h k l =
       ⊎-elim (λ (g : k < j). c .front k g) (λ (g : j ≤ k). c .rest k g l ∙ sym (List·getD-eq-default values missing (omega arith))) (lt-or-le k j)

@@ -5,8 +5,11 @@ pub mod given;
 ghost use mathlib.Core.Path.{_≡_};
 ghost use Prim.Native.Nat.{ℕ, _<_};
 ghost use lib.ListN.{getD};
+ghost use Rattle.records.specs.Records.{fields};
+ghost use Rattle.records.specs.declared.Tag.the-variants.{M};
 ghost use Rattle.words.specs.Words.{handed};
 ghost use Rattle.columns.specs.Line.{atFront};
+use records::ranges::FIELDS_MOST;
 
 // Writes numbers to the front of a buffer that holds them, and else nothing.
 pub fn put_words(out: &mut [u64], words: &[u64])
@@ -22,13 +25,13 @@ pub fn put_words(out: &mut [u64], words: &[u64])
     }
 }
 
-// The first 26 numbers of a slice; a number that is not given is outside every range.
-pub(crate) fn values_of(values: &[u64]) -> [u64; 26]
-    ensures { λ r. ⌜ ((j : ℕ) → j < 26 → getD r j 0 ≡ handed (now (values .entry)) j) ⌝ }
+// As many numbers of a slice as a line has at most; a number that is not given is outside every range.
+pub(crate) fn values_of(values: &[u64]) -> [u64; FIELDS_MOST]
+    ensures { λ r. ⌜ ((j : ℕ) → j < fields M → getD r j 0 ≡ handed (now (values .entry)) j) ⌝ }
 {
-    let mut vs = [18_446_744_073_709_551_615u64; 26];
+    let mut vs = [18_446_744_073_709_551_615u64; FIELDS_MOST];
     let mut j = 0;
-    while j < 26 {
+    while j < FIELDS_MOST {
         if values.len() <= j {
             return vs;
         }

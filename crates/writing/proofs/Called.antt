@@ -7,6 +7,7 @@ use mathlib.Core.Path.{_≡_, refl, ap, sym, _∙_}
 use lib.Dec.{leb, eqb}
 use lib.ListN.{length, length-append}
 use borrow.Author.Tests.{eq-eqb, ne-eqb, le-leb, lt-leb, eqb-true, leb-true}
+use Rattle.format.specs.Lines.{lineSize}
 use Rattle.records.specs.Records.{headerValues}
 use Rattle.records.specs.declared.Header.{Header}
 use Rattle.records.specs.declared.Storey.{Storey}
@@ -88,7 +89,7 @@ module _ (h : Header) (ss : List Storey) (ms : List Member) (before : List ℕ) 
     unfolding fileAnswer
     answer-written r n q l = ap returnedFile q ∙ rw (← e, eq-eqb z 0 zero-fault, length-file h ss ms records-clear, l)
 
-    pub buffer-written : (filled ended : List ℕ) (p : ℕ) → filled ≡ stamped before 0 (lineText B (headerValues h)) → p ≡ 50 → ended ≡ stamped filled p (storeysText ss ms) → ended ≡ fileAfter h ss ms before
+    pub buffer-written : (filled ended : List ℕ) (p : ℕ) → filled ≡ stamped before 0 (lineText B (headerValues h)) → p ≡ lineSize B → ended ≡ stamped filled p (storeysText ss ms) → ended ≡ fileAfter h ss ms before
     unfolding fileAfter fileText
     buffer-written filled ended p f l q =
         q

@@ -20,7 +20,7 @@ use Rattle.checks.specs.Rows.{memberIn, storeyIn, membersOf, recordsFault}
 use Rattle.checks.specs.Rows as Rows
 use Rattle.checks.proofs.Refusals.{None, one, rest}
 use Rattle.checks.proofs.RowLaws.{before-within, members-counted, storeys-counted, total-counted, header-good, rows, row-good, before-end}
-use Rattle.format.specs.Lines.{headerAt, storeyAt}
+use Rattle.format.specs.Lines.{lineSize, headerAt, storeyAt}
 use Rattle.format.specs.Text.{lineText}
 use Rattle.format.proofs.LineText.{Clean}
 use Rattle.format.proofs.Typed.{length-line, drop-past, header-typed, storey-typed, member-typed}
@@ -38,13 +38,13 @@ listed-take f l d (suc n) h g = rw (listed-take f l d n (omega arith) (λ i k. g
 listed-all : {A : Type 0} (f : ℕ → A) (l : List A) (d : A) (n : ℕ) → n ≡ length l → ((i : ℕ) → i < n → f i ≡ getD l i d) → listed f n ≡ l
 listed-all f l d n e g = listed-take f l d n (omega (arith, e)) g ∙ take-all n l (omega (arith, e))
 
-drop-members : (j : ℕ) (xs : List Member) (r : List ℕ) → j ≤ length xs → drop (210 * j) (membersText xs ++ r) ≡ membersText (drop j xs) ++ r
+drop-members : (j : ℕ) (xs : List Member) (r : List ℕ) → j ≤ length xs → drop (lineSize M * j) (membersText xs ++ r) ≡ membersText (drop j xs) ++ r
 unfolding membersText
 drop-members zero xs r h = refl
 drop-members (suc j) [] r h = absurd (not-suc-le-zero h)
 drop-members (suc j) (x ∷ xs) r h =
-    let p : 210 * suc j ≡ 210 + 210 * j = omega arith in
-    rw (p, append-assoc (lineText M (memberValues x)) (membersText xs) r, drop-past (lineText M (memberValues x)) (membersText xs ++ r) 210 (210 * j) (length-line M (memberValues x)))
+    let p : lineSize M * suc j ≡ lineSize M + lineSize M * j = omega arith in
+    rw (p, append-assoc (lineText M (memberValues x)) (membersText xs) r, drop-past (lineText M (memberValues x)) (membersText xs ++ r) (lineSize M) (lineSize M * j) (length-line M (memberValues x)))
     (drop-members j xs r (le-of-suc-le-suc h))
 
 -- ---- refusals that are none
@@ -99,18 +99,18 @@ module _ (s : List ℕ) (h : Header) (ss : List Storey) (ms : List Member) (f : 
 
   passes : (i : ℕ) → Opens i → From (suc i)
   passes i q =
-      let k : lineStart (suc i) (before (suc i)) ≡ lineStart i (before i) + (26 + 210 * storeyIn ss i .count) = omega (arith, before-more i) in
+      let k : lineStart (suc i) (before (suc i)) ≡ lineStart i (before i) + (lineSize S + lineSize M * storeyIn ss i .count) = omega (arith, before-more i) in
       rw (
         k,
-        ← drop-drop (26 + 210 * storeyIn ss i .count) (lineStart i (before i)) s,
+        ← drop-drop (lineSize S + lineSize M * storeyIn ss i .count) (lineStart i (before i)) s,
         q,
-        drop-past (lineText S (storeyValues (storeyIn ss i))) (membersText (own i) ++ later i) 26 (210 * storeyIn ss i .count) (length-line S (storeyValues (storeyIn ss i))),
+        drop-past (lineText S (storeyValues (storeyIn ss i))) (membersText (own i) ++ later i) (lineSize S) (lineSize M * storeyIn ss i .count) (length-line S (storeyValues (storeyIn ss i))),
       )
-      (drop-at (membersText (own i)) (later i) (210 * storeyIn ss i .count) (length-members (own i) ∙ ap (λ (n : ℕ). 210 * n) (length-own i)))
+      (drop-at (membersText (own i)) (later i) (lineSize M * storeyIn ss i .count) (length-members (own i) ∙ ap (λ (n : ℕ). lineSize M * n) (length-own i)))
 
   from : (i : ℕ) → i ≤ length ss → From i
   unfolding fileText Rows.membersBefore
-  from zero l = rw f (drop-at (lineText B (headerValues h)) (storeysText ss ms) 50 (length-line B (headerValues h)))
+  from zero l = rw f (drop-at (lineText B (headerValues h)) (storeysText ss ms) (lineSize B) (length-line B (headerValues h)))
   from (suc i) l = passes i (opens i l (from i (omega arith)))
 
   at-storey : (i : ℕ) → i < length ss → Opens i
@@ -141,13 +141,13 @@ module _ (s : List ℕ) (h : Header) (ss : List Storey) (ms : List Member) (f : 
     at-member : drop (memberStart s i j) s ≡ lineText M (memberValues (memberIn (own i) j)) ++ (membersText (drop (suc j) (own i)) ++ later i)
     unfolding membersText
     at-member =
-        let q : memberStart s i j ≡ lineStart i (before i) + (26 + 210 * j) = omega (arith, before-is i (omega arith)) in
+        let q : memberStart s i j ≡ lineStart i (before i) + (lineSize S + lineSize M * j) = omega (arith, before-is i (omega arith)) in
         let n : j < length (own i) = omega (arith, length-own i) in
         rw (
           q,
-          ← drop-drop (26 + 210 * j) (lineStart i (before i)) s,
+          ← drop-drop (lineSize S + lineSize M * j) (lineStart i (before i)) s,
           at-storey i l,
-          drop-past (lineText S (storeyValues (storeyIn ss i))) (membersText (own i) ++ later i) 26 (210 * j) (length-line S (storeyValues (storeyIn ss i))),
+          drop-past (lineText S (storeyValues (storeyIn ss i))) (membersText (own i) ++ later i) (lineSize S) (lineSize M * j) (length-line S (storeyValues (storeyIn ss i))),
           drop-members j (own i) (later i) (omega arith),
           drop-cons (own i) j noMember n,
         )

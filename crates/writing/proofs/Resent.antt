@@ -9,7 +9,7 @@ use lib.ListN.{length, drop, length-drop, drop-of-length-le}
 use lib.Seq.{take-all, take-append-le, drop-append-le}
 use borrow.Author.Tests.{eqb-true}
 use Rattle.records.specs.Records.{storeyValues, memberValues}
-use Rattle.format.specs.Lines.{headerAt}
+use Rattle.format.specs.Lines.{lineSize, headerAt}
 use Rattle.reading.specs.Survey.{lineStart, membersBefore, storey, memberStart, member, surveyFault, firstMembers, accepted, survey}
 use Rattle.records.specs.Notation.{listed, total}
 use Rattle.format.specs.Text.{lineText}
@@ -17,7 +17,7 @@ use Rattle.writing.specs.File.{membersText, storeyText, storeysText, fil
 use Rattle.records.specs.declared.Header.{Header}
 use Rattle.records.specs.declared.Storey.{Storey}
 use Rattle.records.specs.declared.Member.{Member}
-use Rattle.records.specs.declared.Tag.the-variants.{S, M}
+use Rattle.records.specs.declared.Tag.the-variants.{B, S, M}
 use Rattle.format.proofs.LineText.{header-text, storey-text, member-text}
 use Rattle.reading.proofs.Accepted.{header-clean, storey-clean, member-clean, nothing-after}
 use Rattle.reading.proofs.Numbers.{length-listed, length-members}
@@ -45,15 +45,15 @@ module _ (s : List ℕ) (srows mrows : ℕ) (z : surveyFault s srows mrows .numb
   unfolding listed membersText
   members-text i zero h l = refl
   members-text i (suc c) h l =
-      let p : memberStart s i c + 210 ≡ memberStart s i (suc c) = omega arith in
+      let p : memberStart s i c + lineSize M ≡ memberStart s i (suc c) = omega arith in
       members-text i c h (omega arith)
       ∙ rw (member-text s (memberStart s i c) (member-clean s srows mrows z i h c l), p, members-more (listed (member s i) c) (member s i c ∷ [])) (simp (append-assoc, append-nil))
 
-  storeys-text : (i : ℕ) → i ≤ headerAt s 0 .count → drop 50 s ≡ storeysText (listed (storey s) i) (firstMembers s i) ++ drop (lineStart i (membersBefore s i)) s
+  storeys-text : (i : ℕ) → i ≤ headerAt s 0 .count → drop (lineSize B) s ≡ storeysText (listed (storey s) i) (firstMembers s i) ++ drop (lineStart i (membersBefore s i)) s
   unfolding listed firstMembers membersBefore storeysText
   storeys-text zero h = refl
   storeys-text (suc i) h =
-      let p : lineStart i (membersBefore s i) + 26 ≡ memberStart s i 0 = omega arith in
+      let p : lineStart i (membersBefore s i) + lineSize S ≡ memberStart s i 0 = omega arith in
       let q : memberStart s i (storey s i .count) ≡ lineStart (suc i) (membersBefore s i + storey s i .count) = omega arith in
       storeys-text i (omega arith)
       ∙ rw (

@@ -11,6 +11,8 @@ use borrow.Kind.Num.{pNum}
 use borrow.Kind.ShrSlice.{pShrS}
 use borrow.Kind.MutSlice.{pMutS}
 use borrow.Table.Referent.{rtF, fInt}
+use Rattle.records.specs.declared.Tag.the-variants as tag
+use Rattle.format.specs.Lines.{lineSize}
 use Rattle.checks.specs.RowChecks.{Counted}
 use Rattle.walk.proofs.Fn.{Plain}
 use Rattle.walk.proofs.Slice.{R, taken, made}
@@ -25,18 +27,18 @@ bytes = rtF (fInt w8)
 
 abbrev pub put-members : Plain {n = 2} (pMutS bytes 0 tt ∷ pNum w64 ∷ pShrS (R member) 1 tt ∷ []) (rNum w64)
 put-members = record {
-  requires = λ κs a. (a .1 .0 + 210 * length (a .1 .1 .0 .now) ≤ length (a .0 .now)) ∷ [];
+  requires = λ κs a. (a .1 .0 + lineSize tag.M * length (a .1 .1 .0 .now) ≤ length (a .0 .now)) ∷ [];
   ensures = λ κs a z e.
-      (z ≡ a .1 .0 + 210 * length (a .1 .1 .0 .now))
+      (z ≡ a .1 .0 + lineSize tag.M * length (a .1 .1 .0 .now))
       ∷ (e .0 .now ≡ stamped (a .0 .now) (a .1 .0) (membersText (a .1 .1 .0 .now)))
       ∷ [];
 }
 
 abbrev pub put-storey-lines : Plain {n = 2} (pMutS bytes 0 tt ∷ pNum w64 ∷ taken storey ∷ pShrS (R member) 1 tt ∷ []) (rNum w64)
 put-storey-lines = record {
-  requires = λ κs a. (a .1 .0 + (26 + 210 * length (a .1 .1 .1 .0 .now)) ≤ length (a .0 .now)) ∷ [];
+  requires = λ κs a. (a .1 .0 + (lineSize tag.S + lineSize tag.M * length (a .1 .1 .1 .0 .now)) ≤ length (a .0 .now)) ∷ [];
   ensures = λ κs a z e.
-      (z ≡ a .1 .0 + (26 + 210 * length (a .1 .1 .1 .0 .now)))
+      (z ≡ a .1 .0 + (lineSize tag.S + lineSize tag.M * length (a .1 .1 .1 .0 .now)))
       ∷ (e .0 .now ≡ stamped (a .0 .now) (a .1 .0) (storeyText (a .1 .1 .0) (a .1 .1 .1 .0 .now)))
       ∷ [];
 }
@@ -46,10 +48,10 @@ put-storeys = record {
   requires = λ κs a.
       (Counted (a .1 .1 .0 .now) (a .1 .1 .1 .0 .now)
       × (length (a .1 .1 .1 .0 .now) ≤ 2_000)
-      × (a .1 .0 + (26 * length (a .1 .1 .0 .now) + 210 * length (a .1 .1 .1 .0 .now)) ≤ length (a .0 .now)))
+      × (a .1 .0 + (lineSize tag.S * length (a .1 .1 .0 .now) + lineSize tag.M * length (a .1 .1 .1 .0 .now)) ≤ length (a .0 .now)))
       ∷ [];
   ensures = λ κs a z e.
-      (z ≡ a .1 .0 + (26 * length (a .1 .1 .0 .now) + 210 * length (a .1 .1 .1 .0 .now)))
+      (z ≡ a .1 .0 + (lineSize tag.S * length (a .1 .1 .0 .now) + lineSize tag.M * length (a .1 .1 .1 .0 .now)))
       ∷ (e .0 .now ≡ stamped (a .0 .now) (a .1 .0) (storeysText (a .1 .1 .0 .now) (a .1 .1 .1 .0 .now)))
       ∷ [];
 }

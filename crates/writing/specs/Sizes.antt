@@ -3,11 +3,13 @@ use Prim.Native.Nat.{ℕ, _+_, _*_, _≤_}
 use mathlib.Core.Path.{_≡_}
 use lib.Dec.{eqb}
 use Rattle.records.specs.Notation.{pick}
+use Rattle.records.specs.declared.Tag.the-variants.{B, S, M}
+use Rattle.format.specs.Lines.{lineSize}
 use Rattle.writing.specs.Writing.{fileLengthFault}
 
 -- the size of a file of so many storeys and members
 abbrev pub fileSize : ℕ → ℕ → ℕ
-fileSize storeys members = 50 + 26 * storeys + 210 * members
+fileSize storeys members = lineSize B + lineSize S * storeys + lineSize M * members
 
 -- good records are few
 abbrev pub FewRows : ℕ → ℕ → ℕ → Type 0

@@ -2,6 +2,8 @@
 ghost use mathlib.Core.Path.{_≡_};
 ghost use Prim.Native.Nat.{_+_, _*_, _≤_};
 ghost use lib.ListN.{length};
+ghost use Rattle.records.specs.declared.Tag.the-variants.{S, M};
+ghost use Rattle.format.specs.Lines.{lineSize};
 ghost use Rattle.columns.specs.Bytes.{stamped};
 ghost use Rattle.writing.specs.File.{membersText, storeyText, storeysText};
 ghost use Rattle.writing.specs.Writing.{returnedFile, fileReturned, fileAfter};
@@ -21,8 +23,8 @@ use records::numbers::count_of;
 
 // The M lines of some members.
 fn put_members(out: &mut [u8], at: usize, rows: &[Member]) -> usize
-    requires { ⌜ at + 210 * length (now rows) ≤ length (now out) ⌝ }
-    ensures { λ r. ⌜ r ≡ at + 210 * length (now (rows .entry)) ⌝ }
+    requires { ⌜ at + lineSize M * length (now rows) ≤ length (now out) ⌝ }
+    ensures { λ r. ⌜ r ≡ at + lineSize M * length (now (rows .entry)) ⌝ }
     ensures { λ _. ⌜ now (out .exit) ≡ stamped (now (out .entry)) at (membersText (now (rows .entry))) ⌝ }
 {
     let mut p = at;
@@ -36,8 +38,8 @@ fn put_members(out: &mut [u8], at: usize, rows: &[Member]) -> usize
 
 // The S line of a storey and its M lines.
 fn put_storey_lines(out: &mut [u8], at: usize, s: Storey, rows: &[Member]) -> usize
-    requires { ⌜ at + (26 + 210 * length (now rows)) ≤ length (now out) ⌝ }
-    ensures { λ r. ⌜ r ≡ at + (26 + 210 * length (now (rows .entry))) ⌝ }
+    requires { ⌜ at + (lineSize S + lineSize M * length (now rows)) ≤ length (now out) ⌝ }
+    ensures { λ r. ⌜ r ≡ at + (lineSize S + lineSize M * length (now (rows .entry))) ⌝ }
     ensures { λ _. ⌜ now (out .exit) ≡ stamped (now (out .entry)) at (storeyText s (now (rows .entry))) ⌝ }
 {
     let p = put_storey(out, at, s);
@@ -46,8 +48,8 @@ fn put_storey_lines(out: &mut [u8], at: usize, s: Storey, rows: &[Member]) -> us
 
 // The lines of all storeys.
 fn put_storeys(out: &mut [u8], at: usize, storeys: &[Storey], members: &[Member]) -> usize
-    requires { ⌜ Counted (now storeys) (now members) × (length (now members) ≤ 2_000) × (at + (26 * length (now storeys) + 210 * length (now members)) ≤ length (now out)) ⌝ }
-    ensures { λ r. ⌜ r ≡ at + (26 * length (now (storeys .entry)) + 210 * length (now (members .entry))) ⌝ }
+    requires { ⌜ Counted (now storeys) (now members) × (length (now members) ≤ 2_000) × (at + (lineSize S * length (now storeys) + lineSize M * length (now members)) ≤ length (now out)) ⌝ }
+    ensures { λ r. ⌜ r ≡ at + (lineSize S * length (now (storeys .entry)) + lineSize M * length (now (members .entry))) ⌝ }
     ensures { λ _. ⌜ now (out .exit) ≡ stamped (now (out .entry)) at (storeysText (now (storeys .entry)) (now (members .entry))) ⌝ }
 {
     let mut p = at;

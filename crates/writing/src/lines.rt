@@ -4,12 +4,16 @@ ghost use Prim.Native.Nat.{_+_, _*_, _≤_};
 ghost use lib.ListN.{length};
 ghost use Rattle.records.specs.Records.{headerValues, storeyValues, memberValues};
 ghost use Rattle.records.specs.declared.Tag.the-variants.{B, S, M};
+ghost use Rattle.format.specs.Lines.{lineSize};
 ghost use Rattle.format.specs.Text.{fieldText, fieldsText, lineText};
 ghost use Rattle.columns.specs.Bytes.{stamped};
 ghost use Rattle.writing.specs.Sizes.{FewRows, fileFaultBy};
 use crate::WriteAnswer;
 use crate::Writing;
 use columns::line::put_field;
+use format::lines::HEADER_SIZE;
+use format::lines::MEMBER_SIZE;
+use format::lines::STOREY_SIZE;
 use format::lines::is_force;
 use format::lines::tag_byte;
 use records::Header;
@@ -61,8 +65,8 @@ fn put_survey_line(out: &mut [u8], at: usize, tag: Tag, values: &[u64]) -> usize
 
 // The B line, from the front.
 pub(crate) fn put_header(out: &mut [u8], h: Header) -> usize
-    requires { ⌜ 50 ≤ length (now out) ⌝ }
-    ensures { λ r. ⌜ r ≡ 50 ⌝ }
+    requires { ⌜ lineSize B ≤ length (now out) ⌝ }
+    ensures { λ r. ⌜ r ≡ lineSize B ⌝ }
     ensures { λ _. ⌜ now (out .exit) ≡ stamped (now (out .entry)) 0 (lineText B (headerValues h)) ⌝ }
 {
     let values = [h.knowledge, h.height, h.storeys, h.tilt1, h.tilt2, h.count];
@@ -70,8 +74,8 @@ pub(crate) fn put_header(out: &mut [u8], h: Header) -> usize
 }
 
 pub(crate) fn put_storey(out: &mut [u8], at: usize, s: Storey) -> usize
-    requires { ⌜ at + 26 ≤ length (now out) ⌝ }
-    ensures { λ r. ⌜ r ≡ at + 26 ⌝ }
+    requires { ⌜ at + lineSize S ≤ length (now out) ⌝ }
+    ensures { λ r. ⌜ r ≡ at + lineSize S ⌝ }
     ensures { λ _. ⌜ now (out .exit) ≡ stamped (now (out .entry)) at (lineText S (storeyValues s)) ⌝ }
 {
     let values = [s.number, s.shear, s.count];
@@ -79,8 +83,8 @@ pub(crate) fn put_storey(out: &mut [u8], at: usize, s: Storey) -> usize
 }
 
 pub(crate) fn put_member(out: &mut [u8], at: usize, m: Member) -> usize
-    requires { ⌜ at + 210 ≤ length (now out) ⌝ }
-    ensures { λ r. ⌜ r ≡ at + 210 ⌝ }
+    requires { ⌜ at + lineSize M ≤ length (now out) ⌝ }
+    ensures { λ r. ⌜ r ≡ at + lineSize M ⌝ }
     ensures { λ _. ⌜ now (out .exit) ≡ stamped (now (out .entry)) at (lineText M (memberValues m)) ⌝ }
 {
     let c = m.case;
@@ -123,7 +127,7 @@ pub(crate) fn file_fault(fault: u64, storeys: usize, members: usize, room: usize
     if fault != 0 {
         return fault;
     }
-    if 50 + 26 * storeys + 210 * members <= room {
+    if HEADER_SIZE + STOREY_SIZE * storeys + MEMBER_SIZE * members <= room {
         return 0;
     }
     11

@@ -19,7 +19,7 @@ use borrow.Table.Rows.{sc-here}
 use Rattle.walk.proofs.Walk.{S, _⨾_, _▸_, _◂_, told, _then_, at, from, set, op2, lit, cp, fld, sc, gone, old, forget, falls, test, when, while, exits, ret, same, u64}
 use Rattle.walk.proofs.Slice.{R, kept, full, here, sh-ptr, sh-len, val-at, elem-out}
 use Rattle.walk.proofs.Fn.{Callee, Knows, Body, Answers, entry, call, meets}
-use Rattle.records.proofs.Structs.{storey}
+use Rattle.records.proofs.Structs.{storey, storey-bytes}
 use Rattle.checks.proofs.Says as Says
 use Rattle.records.proofs.numbers.count_of.Met as count-of-met
 use Rattle.records.proofs.numbers.count_of.Symbol as count-of-symbol
@@ -58,7 +58,7 @@ body κs qs bs =
     op2 7 sBool (lt unsigned) (cp 4 (sc u64)) (cp 6 (sc u64)) gone refl (λ u. refl) (λ u. tt) ⨾
     forget 6 (old u64) ▸
     test 7 (λ t. t) (sc sBool) (old sBool) refl (exits 1 tt)
-    (from (cx1 κs qs) (op2 6 u64 (mul unsigned) (cp 4 (sc u64)) (lit w64 24 tt) gone refl (λ u. refl) (λ u. tt) ⨾
+    (from (cx1 κs qs) (op2 6 u64 (mul unsigned) (cp 4 (sc u64)) (lit w64 storey-bytes tt) gone refl (λ u. refl) (λ u. tt) ⨾
     op2 8 sPtr offset (fld 1 0 (sh-ptr (R storey) 0) refl) (cp 6 (sc u64)) gone refl (λ u. refl) (λ u. tt) ⨾
     elem-out storey 9 8 1 4 0 (λ i. i) noStorey same same gone tt refl refl ⨾
     forget 6 (old u64) ▸

@@ -19,7 +19,7 @@ use borrow.Table.Rows.{sc-here}
 use Rattle.walk.proofs.Walk.{S, _⨾_, _▸_, _◂_, told, at, from, set, op2, lit, cp, fld, sc, gone, old, forget, falls, test, when, while, exits, ret, same, u64}
 use Rattle.walk.proofs.Slice.{R, kept, full, here, sh-ptr, val-at, elem-out}
 use Rattle.walk.proofs.Fn.{Callee, Knows, Body, Answers, entry, call, meets}
-use Rattle.records.proofs.Structs.{member}
+use Rattle.records.proofs.Structs.{member, member-bytes}
 use Rattle.checks.proofs.Says as Says
 use Rattle.checks.proofs.row.number_of.Met as number-of-met
 use Rattle.checks.proofs.row.number_of.Symbol as number-of-symbol
@@ -52,7 +52,7 @@ body κs qs bs =
     (λ u vs. u .1 .1 .0 - vs)
     (op2 5 sBool (lt unsigned) (cp 4 (sc u64)) (cp 2 (sc u64)) gone refl (λ u. refl) (λ u. tt) ⨾
     test 5 (λ t. t) (sc sBool) (old sBool) refl (exits 1 tt)
-    (from (cx1 κs qs) (op2 7 u64 (mul unsigned) (cp 4 (sc u64)) (lit w64 208 tt) gone refl (λ u. refl) (λ u. tt) ⨾
+    (from (cx1 κs qs) (op2 7 u64 (mul unsigned) (cp 4 (sc u64)) (lit w64 member-bytes tt) gone refl (λ u. refl) (λ u. tt) ⨾
     op2 8 sPtr offset (fld 1 0 (sh-ptr (R member) 0) refl) (cp 7 (sc u64)) gone refl (λ u. refl) (λ u. tt) ⨾
     elem-out member 9 8 1 4 0 (λ i. i) noMember same same gone tt refl refl ⨾
     forget 7 (old u64) ▸

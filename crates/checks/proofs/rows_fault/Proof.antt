@@ -23,7 +23,7 @@ use borrow.Table.Rows.{sc-here}
 use Rattle.walk.proofs.Walk.{S, _⨾_, _▸_, _◂_, told, _then_, at, from, set, op2, lit, cp, fld, sc, gone, old, forget, falls, test, when, while, exits, ret, same, u64}
 use Rattle.walk.proofs.Slice.{R, kept, full, here, sh-ptr, sh-len, val-at, sh-at, sh-spares, sh-reads, sh-room, copy-val, elem-out, part, slice}
 use Rattle.walk.proofs.Fn.{Callee, Knows, Body, Answers, entry, callee, knows, call, meets}
-use Rattle.records.proofs.Structs.{member, storey}
+use Rattle.records.proofs.Structs.{member, storey, member-bytes, storey-bytes}
 use Rattle.checks.proofs.row.storey_number.Met as storey-number-met
 use Rattle.checks.proofs.row.storey_number.Symbol as storey-number-symbol
 use Rattle.checks.proofs.row.storey_number.Kinds as storey-number-kinds
@@ -101,7 +101,7 @@ body κs qs bs =
     op2 11 sBool (lt unsigned) (cp 4 (sc u64)) (cp 10 (sc u64)) gone refl (λ u. refl) (λ u. tt) ⨾
     forget 10 (old u64) ▸
     test 11 (λ t. t) (sc sBool) (old sBool) refl (exits 1 tt)
-    (from (cx1 κs qs) (op2 10 u64 (mul unsigned) (cp 4 (sc u64)) (lit w64 24 tt) gone refl (λ u. refl) (λ u. tt) ⨾
+    (from (cx1 κs qs) (op2 10 u64 (mul unsigned) (cp 4 (sc u64)) (lit w64 storey-bytes tt) gone refl (λ u. refl) (λ u. tt) ⨾
     op2 12 sPtr offset (fld 1 0 (sh-ptr (R storey) 0) refl) (cp 10 (sc u64)) gone refl (λ u. refl) (λ u. tt) ⨾
     elem-out storey 13 12 1 4 0 (λ i. i) noStorey same same gone tt refl refl ⨾
     forget 10 (old u64) ▸
@@ -118,7 +118,7 @@ body κs qs bs =
     forget 5 (full storey) ▸
     op2 8 u64 (add unsigned) (cp 3 (sc u64)) (cp 10 (sc u64)) gone refl (λ u. refl) (λ u. tt) ⨾
     forget 10 (old u64) ▸
-    op2 10 u64 (mul unsigned) (cp 3 (sc u64)) (lit w64 208 tt) gone refl (λ u. refl) (λ u. tt) ⨾
+    op2 10 u64 (mul unsigned) (cp 3 (sc u64)) (lit w64 member-bytes tt) gone refl (λ u. refl) (λ u. tt) ⨾
     op2 15 sPtr offset (fld 2 0 (sh-ptr (R member) 1) refl) (cp 10 (sc u64)) gone refl (λ u. refl) (λ u. tt) ⨾
     op2 16 u64 (sub unsigned) (cp 8 (sc u64)) (cp 3 (sc u64)) gone refl (λ u. refl) (λ u. tt) ⨾
     part member 17 15 2 3 8 1 (λ i. i) (λ e. e) same same gone tt refl (λ b o. tt) ⨾

@@ -1,6 +1,8 @@
 use Prim.Native.Nat.{_-_}
 use native.Mathlib.Omega.{arith}
 use borrow.Author.Needs.{needs}
+use Rattle.records.specs.Records.{fields}
+use Rattle.records.specs.declared.Tag.the-variants.{M}
 use Rattle.words.proofs.Values.{Copied, copied-none, copied-next, copied-all, copied-short}
 use Rattle.words.proofs.values_of.Statement.{statement}
 use Rattle.words.proofs.values_of.Tie as tie
@@ -9,7 +11,7 @@ abbrev Inv-loop : tie.InvT-loop
 Inv-loop values vs₀ j₀ vs j = Copied values vs j
 
 abbrev μ-loop : tie.MeasureT-loop
-μ-loop values vs₀ j₀ vs j = 26 - j
+μ-loop values vs₀ j₀ vs j = fields M - j
 
 loop-holds : tie.Need-loop-holds Inv-loop μ-loop
 loop-holds c = copied-none _

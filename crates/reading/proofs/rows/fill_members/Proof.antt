@@ -17,7 +17,7 @@ use borrow.Table.Rows.{sc-here}
 use Rattle.walk.proofs.Walk.{S, _⨾_, _▸_, _◂_, told, _then_, at, from, set, op2, lit, unit, cp, fld, sc, gone, old, forget, falls, test, while, exits, ret, same, u64}
 use Rattle.walk.proofs.Slice.{R, kept, full, here, mut-ptr, sh-at, sh-spares, sh-reads, elem-in}
 use Rattle.walk.proofs.Fn.{Callee, Knows, Body, Answers, entry, call, meets}
-use Rattle.records.proofs.Structs.{member}
+use Rattle.records.proofs.Structs.{member, member-bytes}
 use Rattle.records.specs.declared.Member.{Member}
 use Rattle.format.specs.Lines.{memberAt}
 use Rattle.reading.specs.Survey.{lineStart}
@@ -63,7 +63,7 @@ body κs qs bs =
     op2 10 u64 (add unsigned) (cp 3 (sc u64)) (lit w64 1 tt) gone refl (λ u. refl) (λ u. tt) ⨾
     call the-member-at (λ s k. k) 9 (0 ∷ []) (sh-at 1 τ1 (λ x. x), (vAt 10 (λ x. x), (vAt 7 (λ x. x), tt))) (λ s. (sh-spares s bytes τ1 0, sh-reads s bytes τ1 0, refl, ((sc u64 .is s, refl), ((sc u64 .is s, refl), tt)))) gone (tt, tt) refl ⨾
     forget 10 (old u64) ▸
-    op2 11 u64 (mul unsigned) (cp 7 (sc u64)) (lit w64 208 tt) gone refl (λ u. refl) (λ u. tt) ⨾
+    op2 11 u64 (mul unsigned) (cp 7 (sc u64)) (lit w64 member-bytes tt) gone refl (λ u. refl) (λ u. tt) ⨾
     op2 12 sPtr offset (fld 2 0 (mut-ptr (R member) 1) refl) (cp 11 (sc u64)) gone refl (λ u. refl) (λ u. tt) ⨾
     from (cx2 κs qs) (elem-in member 12 9 2 7 1 (λ i. i) same same (here member) tt refl refl ⨾
     forget 9 (full member) ▸

@@ -17,7 +17,7 @@ use borrow.Table.Rows.{sc-here}
 use Rattle.walk.proofs.Walk.{S, _⨾_, _▸_, _◂_, told, at, from, set, op2, lit, unit, cp, fld, sc, gone, old, forget, falls, test, while, exits, ret, same, u64}
 use Rattle.walk.proofs.Slice.{R, kept, full, here, mut-ptr, val-at, sh-at, sh-spares, sh-reads, elem-in}
 use Rattle.walk.proofs.Fn.{Callee, Knows, Body, Answers, entry, call, meets}
-use Rattle.records.proofs.Structs.{storey}
+use Rattle.records.proofs.Structs.{storey, storey-bytes}
 use Rattle.records.specs.declared.Storey.{Storey}
 use Rattle.reading.specs.Survey.{membersBefore, storey as storeyOf}
 use Rattle.reading.specs.Filling.{placed}
@@ -68,7 +68,7 @@ body κs qs bs =
     (op2 7 sBool (lt unsigned) (cp 5 (sc u64)) (cp 3 (sc u64)) gone refl (λ u. refl) (λ u. tt) ⨾
     test 7 (λ t. t) (sc sBool) (old sBool) refl (exits 1 tt)
     (from (cx1 κs qs) (call the-storey-at (λ s k. k .0) 6 (0 ∷ []) (sh-at 1 τ1 (λ x. x), (vAt 5 (λ x. x), (vAt 4 (λ x. x), tt))) (λ s. (sh-spares s bytes τ1 0, sh-reads s bytes τ1 0, refl, ((sc u64 .is s, refl), ((sc u64 .is s, refl), tt)))) gone (tt, tt) refl ⨾
-    op2 8 u64 (mul unsigned) (cp 5 (sc u64)) (lit w64 24 tt) gone refl (λ u. refl) (λ u. tt) ⨾
+    op2 8 u64 (mul unsigned) (cp 5 (sc u64)) (lit w64 storey-bytes tt) gone refl (λ u. refl) (λ u. tt) ⨾
     op2 9 sPtr offset (fld 2 0 (mut-ptr (R storey) 1) refl) (cp 8 (sc u64)) gone refl (λ u. refl) (λ u. tt) ⨾
     elem-in storey 9 6 2 5 1 (λ i. i) same same (here storey) tt refl refl ⨾
     forget 8 (old u64) ▸

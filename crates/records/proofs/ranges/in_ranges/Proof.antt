@@ -2,6 +2,7 @@ use Prim.Native.Nat.{_<_, _≤_, _-_}
 use borrow.Author.Tests.{not-true, not-false}
 use Rattle.records.specs.Records.{fields, inRange}
 use mathlib.Core.Bool.{true}
+use Rattle.records.specs.declared.Tag.the-variants.{M}
 use mathlib.Core.Path.{_≡_, _∙_, sym}
 use native.Mathlib.Omega.{arith}
 use borrow.Author.Needs.{needs}
@@ -12,7 +13,7 @@ use Rattle.records.proofs.ranges.in_ranges.Statement.{statement}
 use Rattle.records.proofs.ranges.in_ranges.Tie as tie
 
 abbrev Inv-loop : tie.InvT-loop
-Inv-loop tag vs n storeys j₀ j = (n ≡ fields tag) × (n ≤ 26) × (j ≤ n) × (everyBelow (inRange tag vs) j ≡ true)
+Inv-loop tag vs n storeys j₀ j = (n ≡ fields tag) × (n ≤ fields M) × (j ≤ n) × (everyBelow (inRange tag vs) j ≡ true)
 
 abbrev μ-loop : tie.MeasureT-loop
 μ-loop tag vs n storeys j₀ j = n - j

@@ -1,6 +1,6 @@
 use Rattle.records.specs.Records.{memberRanges}
 use mathlib.Core.Path.{_∙_}
-use Rattle.records.proofs.Allowing.{past, in-tables}
+use Rattle.records.proofs.Allowing.{past, in-member-tables}
 use borrow.Author.Needs.{needs}
 use Rattle.records.proofs.ranges.member_allows.Statement.{statement}
 use Rattle.records.proofs.ranges.member_allows.Tie as tie
@@ -27,7 +27,7 @@ between-requires-2 : tie.Need-between-requires-2
 between-requires-2 c κs = search needs
 
 returns-2 : tie.Need-returns-2
-returns-2 c = c .between2 .ensures ∙ in-tables (c .before .before .args .j) (c .before .before .args .v) (c .before .if1 .left)
+returns-2 c = c .between2 .ensures ∙ in-member-tables (c .before .before .args .j) (c .before .before .args .v) (c .before .if1 .left)
 
 pub member-allows-spec : {M : Type 1} → statement M
 member-allows-spec =

@@ -6,18 +6,18 @@ use lib.ListN.{getD}
 use borrow.Author.Needs.{needs}
 use borrow.Author.Tests.{not-true, not-false}
 use Rattle.records.specs.Notation.{everyBelow}
-use Rattle.records.specs.Records.{inRange}
+use Rattle.records.specs.Records.{fields, inRange}
 use Rattle.records.specs.declared.Tag.the-variants.{M}
-use Rattle.records.proofs.Allowing.{in-tables}
+use Rattle.records.proofs.Allowing.{in-member-tables}
 use Rattle.records.proofs.Below.{every-none, every-more, every-fails}
 use Rattle.records.proofs.ranges.member_in_ranges.Statement.{statement}
 use Rattle.records.proofs.ranges.member_in_ranges.Tie as tie
 
 abbrev Inv-loop : tie.InvT-loop
-Inv-loop vs least most j₀ j = (j ≤ 26) × (everyBelow (inRange M vs) j ≡ true)
+Inv-loop vs least most j₀ j = (j ≤ fields M) × (everyBelow (inRange M vs) j ≡ true)
 
 abbrev μ-loop : tie.MeasureT-loop
-μ-loop vs least most j₀ j = 26 - j
+μ-loop vs least most j₀ j = fields M - j
 
 loop-holds : tie.Need-loop-holds Inv-loop μ-loop
 loop-holds c = (omega arith, every-none _)
@@ -47,7 +47,7 @@ returns : tie.Need-returns Inv-loop μ-loop
 returns c =
     let l = c .before .before .before .loop in
     let a = c .before .before .before .before .args in
-    sym (every-fails (inRange M (a .t1)) 26 (l .j) (omega arith) (sym (in-tables (l .j) (getD (a .t1) (l .j) 0) (omega arith)) ∙ sym (c .before .between .ensures) ∙ not-true _ (c .if1 .taken)))
+    sym (every-fails (inRange M (a .t1)) (fields M) (l .j) (omega arith) (sym (in-member-tables (l .j) (getD (a .t1) (l .j) 0) (omega arith)) ∙ sym (c .before .between .ensures) ∙ not-true _ (c .if1 .taken)))
 
 add-j : tie.Need-add-j Inv-loop μ-loop
 add-j c = search needs
@@ -59,10 +59,10 @@ loop-again : tie.Need-loop-again Inv-loop μ-loop
 loop-again c =
     let l = c .before .before .before .loop in
     let a = c .before .before .before .before .args in
-    (omega arith, every-more (inRange M (a .t1)) (l .j) (l .inv .1) (sym (in-tables (l .j) (getD (a .t1) (l .j) 0) (omega arith)) ∙ sym (c .before .between .ensures) ∙ not-false _ (c .if1 .left)))
+    (omega arith, every-more (inRange M (a .t1)) (l .j) (l .inv .1) (sym (in-member-tables (l .j) (getD (a .t1) (l .j) 0) (omega arith)) ∙ sym (c .before .between .ensures) ∙ not-false _ (c .if1 .left)))
 
 returns-2 : tie.Need-returns-2 Inv-loop μ-loop
-returns-2 c = let l = c .before .loop in let e : l .j ≡ 26 = omega arith in sym (rw e at (l .inv .1))
+returns-2 c = let l = c .before .loop in let e : l .j ≡ fields M = omega arith in sym (rw e at (l .inv .1))
 
 pub member-in-ranges-spec : {M : Type 1} → statement M
 member-in-ranges-spec =

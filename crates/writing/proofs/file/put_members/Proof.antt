@@ -2,6 +2,8 @@ use Prim.Native.Nat.{ℕ, _+_, _*_, _-_, _≤_}
 use native.Mathlib.Omega.{arith}
 use lib.ListN.{length, drop}
 use borrow.Author.Tests.{ltb-true, ltb-false}
+use Rattle.records.specs.declared.Tag.the-variants as tag
+use Rattle.format.specs.Lines.{lineSize}
 use Rattle.records.specs.Blank.{noMember}
 use Rattle.columns.specs.Bytes.{stamped}
 use Rattle.writing.specs.File.{membersText}
@@ -23,7 +25,7 @@ use Rattle.walk.proofs.Walk.{S, _⨾_, _▸_, _◂_, told, at, slot, from, set,
 use Rattle.walk.proofs.Slice.{R, kept, full, here, sh-ptr, sh-len, val-at, mut-at, mut-is, mut-reads, elem-out, slice, lend-on, back-on, owed-len}
 use Rattle.walk.proofs.Array.{begin, end, over}
 use Rattle.walk.proofs.Fn.{Callee, Knows, Body, Answers, entry, call, meets}
-use Rattle.records.proofs.Structs.{member}
+use Rattle.records.proofs.Structs.{member, member-bytes}
 use Rattle.writing.proofs.Says as Says
 use Rattle.writing.proofs.Says.{bytes}
 use Rattle.writing.proofs.lines.put_member.Met as put-member-met
@@ -60,7 +62,7 @@ body κs qs bs =
     set 4 u64 (cp 2 (sc u64)) gone refl (λ u. refl) (λ u. tt) ⨾
     set 5 u64 (lit w64 0 tt) gone refl (λ u. refl) (λ u. tt) ⨾
     from (cx1 κs qs) (while (λ (vs : List ℕ × ℕ × ℕ) u. (u .0, (setVals (vs .0) (u .1 .0), (u .1 .1 .0, (u .1 .1 .1 .0, (vs .1, (vs .2, u .1 .1 .1 .1 .1 .1)))))))
-    (λ u vs. (vs .2 ≤ length (u .1 .1 .1 .0 .now)) × (vs .1 ≡ u .1 .1 .0 + 210 * vs .2) × (length (vs .0) ≡ length (u .1 .0 .now)) × (stamped (vs .0) (vs .1) (membersText (drop (vs .2) (u .1 .1 .1 .0 .now))) ≡ stamped (u .1 .0 .now) (u .1 .1 .0) (membersText (u .1 .1 .1 .0 .now))))
+    (λ u vs. (vs .2 ≤ length (u .1 .1 .1 .0 .now)) × (vs .1 ≡ u .1 .1 .0 + lineSize tag.M * vs .2) × (length (vs .0) ≡ length (u .1 .0 .now)) × (stamped (vs .0) (vs .1) (membersText (drop (vs .2) (u .1 .1 .1 .0 .now))) ≡ stamped (u .1 .0 .now) (u .1 .1 .0) (membersText (u .1 .1 .1 .0 .now))))
     (λ u vs. length (u .1 .1 .1 .0 .now) - vs .2)
     (set 6 u64 (fld 3 1 (sh-len (R member) 1) refl) gone refl (λ u. refl) (λ u. tt) ⨾
     op2 7 sBool (lt unsigned) (cp 5 (sc u64)) (cp 6 (sc u64)) gone refl (λ u. refl) (λ u. tt) ⨾
@@ -69,7 +71,7 @@ body κs qs bs =
     (from (cx1 κs qs) (begin 2 (tt, (tt, (tt, (tt, (tt, (tt, (tt, (tt, (tt, (tt, (tt, (tt, tt)))))))))))) ▸
     lend-on bytes 8 1 0 2 same gone tt refl refl (λ b o. tt) ⨾
     slice bytes (asMut bytes) 9 8 2 (fld 1 1 (owed-len bytes 0 2 (lease (κs .0) (qs .0))) refl) same gone refl refl (λ b o k. tt) ⨾
-    op2 6 u64 (mul unsigned) (cp 5 (sc u64)) (lit w64 208 tt) gone refl (λ u. refl) (λ u. tt) ⨾
+    op2 6 u64 (mul unsigned) (cp 5 (sc u64)) (lit w64 member-bytes tt) gone refl (λ u. refl) (λ u. tt) ⨾
     op2 10 sPtr offset (fld 3 0 (sh-ptr (R member) 1) refl) (cp 6 (sc u64)) gone refl (λ u. refl) (λ u. tt) ⨾
     elem-out member 11 10 3 5 1 (λ i. i) noMember same same gone tt refl refl ⨾
     from (cx2 κs qs) (forget 6 (old u64) ▸

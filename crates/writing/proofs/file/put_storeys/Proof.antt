@@ -2,6 +2,8 @@ use Prim.Native.Nat.{ℕ, _+_, _*_, _-_, _≤_}
 use native.Mathlib.Omega.{arith}
 use lib.ListN.{length, drop}
 use borrow.Author.Tests.{ltb-true, ltb-false}
+use Rattle.records.specs.declared.Tag.the-variants as tag
+use Rattle.format.specs.Lines.{lineSize}
 use Rattle.records.specs.Blank.{noStorey}
 use Rattle.checks.specs.Rows.{membersBefore}
 use Rattle.columns.specs.Bytes.{stamped}
@@ -27,7 +29,7 @@ use Rattle.walk.proofs.Walk.{S, _⨾_, _▸_, _◂_, told, _then_, at, slot, fr
 use Rattle.walk.proofs.Slice.{sh-at, R, kept, full, here, sh-ptr, sh-len, val-at, sh-spares, sh-reads, sh-room, mut-at, mut-is, mut-reads, copy-val, elem-out, part, slice, lend-on, back-on, owed-len}
 use Rattle.walk.proofs.Array.{begin, end, over}
 use Rattle.walk.proofs.Fn.{Callee, Knows, Body, Answers, entry, callee, knows, call, meets}
-use Rattle.records.proofs.Structs.{member, storey}
+use Rattle.records.proofs.Structs.{member, storey, member-bytes, storey-bytes}
 use Rattle.records.proofs.numbers.count_of.Met as count-of-met
 use Rattle.records.proofs.numbers.count_of.Symbol as count-of-symbol
 use Rattle.records.proofs.numbers.count_of.Kinds as count-of-kinds
@@ -76,13 +78,13 @@ body κs qs bs =
     set 6 u64 (lit w64 0 tt) gone refl (λ u. refl) (λ u. tt) ⨾
     set 7 u64 (lit w64 0 tt) gone refl (λ u. refl) (λ u. tt) ⨾
     from (cx1 κs qs) (while (λ (vs : List ℕ × ℕ × ℕ × ℕ) u. (u .0, (setVals (vs .0) (u .1 .0), (u .1 .1 .0, (u .1 .1 .1 .0, (u .1 .1 .1 .1 .0, (vs .1, (vs .2, (vs .3, u .1 .1 .1 .1 .1 .1 .1 .1)))))))))
-    (λ u vs. (vs .3 ≤ length (u .1 .1 .1 .0 .now)) × (vs .2 ≡ membersBefore (u .1 .1 .1 .0 .now) (vs .3)) × (vs .1 ≡ u .1 .1 .0 + (26 * vs .3 + 210 * vs .2)) × (length (vs .0) ≡ length (u .1 .0 .now)) × (stamped (vs .0) (vs .1) (storeysText (drop (vs .3) (u .1 .1 .1 .0 .now)) (drop (vs .2) (u .1 .1 .1 .1 .0 .now))) ≡ stamped (u .1 .0 .now) (u .1 .1 .0) (storeysText (u .1 .1 .1 .0 .now) (u .1 .1 .1 .1 .0 .now))))
+    (λ u vs. (vs .3 ≤ length (u .1 .1 .1 .0 .now)) × (vs .2 ≡ membersBefore (u .1 .1 .1 .0 .now) (vs .3)) × (vs .1 ≡ u .1 .1 .0 + (lineSize tag.S * vs .3 + lineSize tag.M * vs .2)) × (length (vs .0) ≡ length (u .1 .0 .now)) × (stamped (vs .0) (vs .1) (storeysText (drop (vs .3) (u .1 .1 .1 .0 .now)) (drop (vs .2) (u .1 .1 .1 .1 .0 .now))) ≡ stamped (u .1 .0 .now) (u .1 .1 .0) (storeysText (u .1 .1 .1 .0 .now) (u .1 .1 .1 .1 .0 .now))))
     (λ u vs. length (u .1 .1 .1 .0 .now) - vs .3)
     (set 10 u64 (fld 3 1 (sh-len (R storey) 1) refl) gone refl (λ u. refl) (λ u. tt) ⨾
     op2 11 sBool (lt unsigned) (cp 7 (sc u64)) (cp 10 (sc u64)) gone refl (λ u. refl) (λ u. tt) ⨾
     forget 10 (old u64) ▸
     test 11 (λ t. t) (sc sBool) (old sBool) refl (exits 1 tt)
-    (from (cx1 κs qs) (op2 10 u64 (mul unsigned) (cp 7 (sc u64)) (lit w64 24 tt) gone refl (λ u. refl) (λ u. tt) ⨾
+    (from (cx1 κs qs) (op2 10 u64 (mul unsigned) (cp 7 (sc u64)) (lit w64 storey-bytes tt) gone refl (λ u. refl) (λ u. tt) ⨾
     op2 12 sPtr offset (fld 3 0 (sh-ptr (R storey) 1) refl) (cp 10 (sc u64)) gone refl (λ u. refl) (λ u. tt) ⨾
     elem-out storey 13 12 3 7 1 (λ i. i) noStorey same same gone tt refl refl ⨾
     forget 10 (old u64) ▸
@@ -95,7 +97,7 @@ body κs qs bs =
     begin 3 (tt, (tt, (tt, (tt, (tt, (tt, (tt, (tt, (tt, (tt, (tt, (tt, (tt, (tt, (tt, (tt, (tt, (tt, (tt, (tt, tt)))))))))))))))))))) ▸
     lend-on bytes 14 1 0 3 same gone tt refl refl (λ b o. tt) ⨾
     slice bytes (asMut bytes) 15 14 3 (fld 1 1 (owed-len bytes 0 3 (lease (κs .0) (qs .0))) refl) same gone refl refl (λ b o k. tt) ⨾
-    from (cx4 κs qs) (op2 10 u64 (mul unsigned) (cp 6 (sc u64)) (lit w64 208 tt) gone refl (λ u. refl) (λ u. tt) ⨾
+    from (cx4 κs qs) (op2 10 u64 (mul unsigned) (cp 6 (sc u64)) (lit w64 member-bytes tt) gone refl (λ u. refl) (λ u. tt) ⨾
     op2 16 sPtr offset (fld 4 0 (sh-ptr (R member) 2) refl) (cp 10 (sc u64)) gone refl (λ u. refl) (λ u. tt) ⨾
     op2 17 u64 (sub unsigned) (cp 9 (sc u64)) (cp 6 (sc u64)) gone refl (λ u. refl) (λ u. tt) ⨾
     part member 18 16 4 6 9 2 (λ i. i) (λ e. e) same same gone tt refl (λ b o. tt) ⨾
