@@ -33,6 +33,9 @@ pub storey-line-is : (number r : ℕ) (f : StoreyFinding) → r ≡ flag (f .ris
 unfolding storeyLine
 storey-line-is number r f e = rw e
 
+pub storey-line-of : (out bytes : List ℕ) (at number : ℕ) (f g : StoreyFinding) → out ≡ stamped bytes at (storeyLine number f) → f ≡ g → out ≡ stamped bytes at (storeyLine number g)
+storey-line-of out bytes at number f g e q = rw (← q) e
+
 pub building-line-is : (t r : ℕ) (tilt risky : Bool) → t ≡ flag tilt → r ≡ flag risky → line (66 ∷ []) (t ∷ r ∷ []) ≡ buildingLine tilt risky
 unfolding buildingLine
 building-line-is t r tilt risky g h = rw (g, h)

@@ -98,17 +98,21 @@ nd-most m = omega arith
 -- the test of the totals holds where each number leaves room, and there alone
 pub takes-room : (t : Tally) (nd : ℕ) (m : Member) → takesOne t nd (m .case .shear) ≡ true → AddsNumbers t nd m
 takes-room t nd m e =
-    let a = and-right _ _ e in
-    let b = and-right _ _ a in
-    let c = and-right _ _ b in
-    let d = and-right _ _ c in
+    let r5 = leb nd ratioCap && leb (m .case .shear) shearMost in
+    let r4 = leb (t .damage) totalMost && r5 in
+    let r3 = leb (t .«over_shear») totalMost && r4 in
+    let r2 = leb (t .«axial_total») totalMost && r3 in
+    let a = and-right (ltb (t .members) membersMost) r2 e in
+    let b = and-right (leb (t .«axial_total») totalMost) r3 a in
+    let c = and-right (leb (t .«over_shear») totalMost) r4 b in
+    let d = and-right (leb (t .damage) totalMost) r5 c in
     record {
-      fewer = ltb-true _ _ (and-left _ _ e);
-      axial-total = leb-true _ _ (and-left _ _ a);
-      over-shear = leb-true _ _ (and-left _ _ b);
-      damage = leb-true _ _ (and-left _ _ c);
-      ratio = leb-true _ _ (and-left _ _ d);
-      shear = leb-true _ _ (and-right _ _ d);
+      fewer = ltb-true (t .members) membersMost (and-left (ltb (t .members) membersMost) r2 e);
+      axial-total = leb-true (t .«axial_total») totalMost (and-left (leb (t .«axial_total») totalMost) r3 a);
+      over-shear = leb-true (t .«over_shear») totalMost (and-left (leb (t .«over_shear») totalMost) r4 b);
+      damage = leb-true (t .damage) totalMost (and-left (leb (t .damage) totalMost) r5 c);
+      ratio = leb-true nd ratioCap (and-left (leb nd ratioCap) (leb (m .case .shear) shearMost) d);
+      shear = leb-true (m .case .shear) shearMost (and-right (leb nd ratioCap) (leb (m .case .shear) shearMost) d);
     }
 
 pub room-takes : (t : Tally) (nd : ℕ) (m : Member) → AddsNumbers t nd m → takesOne t nd (m .case .shear) ≡ true

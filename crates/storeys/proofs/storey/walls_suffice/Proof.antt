@@ -5,6 +5,7 @@ use mathlib.Core.Path.{_≡_, refl}
 use lib.ListN.{length, drop}
 use borrow.Author.Tests.{ltb-true, ltb-false}
 use Rattle.records.specs.Blank.{noMember}
+use Rattle.checks.specs.Rows.{memberIn}
 use Rattle.storeys.specs.Totals.{totalMost, shearMost, wallsFrom}
 use Rattle.storeys.proofs.Loops.{wall-next, wall-all, wall-most, suffice-is}
 use contract.Lifetimes.{Lfts, Shares}
@@ -89,7 +90,7 @@ answers κs qs a good pre bs =
               λ _. (
                 λ _. tt,
                 λ g.
-                    (search needs, (length (a .1 .0 .now) - (vs .1 + 1), omega arith, ((g .1, vs .1 + 1), refl, (wall-next (a .1 .0 .now) (vs .0) (vs .1) (inv .0) (g .1) l (g .5), wall-most (vs .0) (g .1) _ (inv .1) (g .5)), refl))),
+                    (search needs, (length (a .1 .0 .now) - (vs .1 + 1), omega arith, ((g .1, vs .1 + 1), refl, (wall-next (a .1 .0 .now) (vs .0) (vs .1) (inv .0) (g .1) l (g .5), wall-most (vs .0) (g .1) (memberIn (a .1 .0 .now) (vs .1)) (inv .1) (g .5)), refl))),
               ),
             ),
           ),
