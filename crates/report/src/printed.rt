@@ -77,7 +77,13 @@ fn put_finding(out: &mut [u8], at: usize, number: u64, f: Finding) -> usize
 }
 
 // A good member, judged once with k and the 0.40 condition of its storey: its line, and its part of the totals.
-pub(crate) fn put_member(out: &mut [u8], r: PrintedMembers, k: u64, met: bool, m: Member) -> PrintedMembers
+pub(crate) fn put_member(
+    out: &mut [u8],
+    r: PrintedMembers,
+    k: u64,
+    met: bool,
+    m: Member,
+) -> PrintedMembers
     requires { ⌜ AddsUp (r .tally) k m × (r .at + 86 ≤ length (now out)) ⌝ }
     ensures { λ z. ⌜ z .at ≡ r .at + 86 ⌝ }
     ensures { λ z. ⌜ z .tally ≡ added (r .tally) k met m ⌝ }
@@ -111,7 +117,13 @@ pub(crate) fn put_storey(out: &mut [u8], at: usize, s: Storey, f: StoreyFinding)
 }
 
 // The storey's line from the totals of its members, after the storeys before it.
-pub(crate) fn put_totals(out: &mut [u8], p: PrintedStoreys, r: PrintedMembers, s: Storey, met: bool) -> PrintedStoreys
+pub(crate) fn put_totals(
+    out: &mut [u8],
+    p: PrintedStoreys,
+    r: PrintedMembers,
+    s: Storey,
+    met: bool,
+) -> PrintedStoreys
     requires { ⌜ r .at + 74 ≤ length (now out) ⌝ }
     ensures { λ z. ⌜ z .at ≡ r .at + 74 ⌝ }
     ensures { λ z. ⌜ z .risky ≡ (p .risky || foundBy s met (r .tally) .risky) ⌝ }

@@ -30,7 +30,13 @@ use storeys::storey::walls_suffice;
 use storeys::verdict::level_of;
 
 // The good members of a storey, each judged once with k and the storey's 0.40 condition: their lines and their totals.
-fn put_members(out: &mut [u8], p: PrintedStoreys, k: u64, met: bool, rows: &[Member]) -> PrintedMembers
+fn put_members(
+    out: &mut [u8],
+    p: PrintedStoreys,
+    k: u64,
+    met: bool,
+    rows: &[Member],
+) -> PrintedMembers
     requires { ⌜ (knowledge k ≡ true) × Rows (now rows) × (p .at + 86 * length (now rows) ≤ length (now out)) ⌝ }
     ensures { λ r. ⌜ r .at ≡ p .at + 86 * length (now (rows .entry)) ⌝ }
     ensures { λ r. ⌜ r .tally ≡ tallyOf k met (now (rows .entry)) ⌝ }
@@ -46,7 +52,13 @@ fn put_members(out: &mut [u8], p: PrintedStoreys, k: u64, met: bool, rows: &[Mem
 }
 
 // The lines of a good storey after others: its members', then its own.
-fn put_storey_lines(out: &mut [u8], p: PrintedStoreys, k: u64, s: Storey, rows: &[Member]) -> PrintedStoreys
+fn put_storey_lines(
+    out: &mut [u8],
+    p: PrintedStoreys,
+    k: u64,
+    s: Storey,
+    rows: &[Member],
+) -> PrintedStoreys
     requires { ⌜ (storeyCallFault k s (now rows) ≡ 0) × (p .at + (86 * length (now rows) + 74) ≤ length (now out)) ⌝ }
     ensures { λ r. ⌜ r .at ≡ p .at + (86 * length (now (rows .entry)) + 74) ⌝ }
     ensures { λ r. ⌜ r .risky ≡ (p .risky || storeyRisky publishedRules k (s .shear) (now (rows .entry))) ⌝ }

@@ -32,7 +32,7 @@ same-length : tie.Need-same-length
 same-length c = search needs
 
 returns : tie.Need-returns
-returns c = 
+returns c =
     let a = c .before .before .before .before .before .before .before .before .before .before .before .args in
     let t = c .before .before .before .before .before .before .before .before .before .is-tilted .ensures in
     let r = c .before .before .before .before .before .before .before .before .building-risky .ensures ∙ ap (λ (x : Bool). a .p .risky || x) t in

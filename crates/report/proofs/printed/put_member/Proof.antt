@@ -25,7 +25,7 @@ same-length : tie.Need-same-length
 same-length c = search needs
 
 returns : tie.Need-returns
-returns c = 
+returns c =
     let a = c .before .before .before .before .before .before .before .before .before .before .before .args in
     let p = c .before .before .before .before .before .before .before .before .before .before .before .pre .0 in
     let j = c .before .before .before .before .before .before .before .before .before .judge-member in
@@ -40,7 +40,7 @@ returns c =
     )
 
 returns-2 : tie.Need-returns-2
-returns-2 c = 
+returns-2 c =
     let a = c .before .before .before .before .args in
     let p = c .before .before .before .before .pre .0 in
     let j = c .before .before .judge-member in

@@ -20,7 +20,7 @@ same-length : tie.Need-same-length
 same-length c = search needs
 
 returns : tie.Need-returns
-returns c = 
+returns c =
     let a = c .before .before .before .before .before .before .before .before .args in
     let f = c .before .before .before .before .before .finding-of in
     let l = c .before .before .before .put-storey in (

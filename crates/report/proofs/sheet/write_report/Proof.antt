@@ -78,9 +78,6 @@ abbrev τ3 : Ty
 abbrev τ13 : Ty
 τ13 = tyRef erased mut (tyInt w8)
 
-abbrev τ16 : Ty
-τ16 = tyRef erased mut (tyInt w8)
-
 abbrev start : Lfts 3 → Shares 3 → Cx
 start κs qs = entry Says.write-report K 2 Code.function κs qs
 
@@ -91,10 +88,10 @@ abbrev cx2 : Lfts 3 → Shares 3 → Cx
 cx2 κs qs = at 4 (mslice-owed bytes (tyRef (named 2) mut (tyInt w8)) 2 3 (lease (κs .1 .1 .0) (qs .1 .1 .0))) (at 5 (sc-here u64) (at 6 (sc-here u64) (at 7 (kept printedstoreys) (at 13 (msleft bytes (tyRef erased mut (tyInt w8))) (slot 2 off (slot 3 dead (start κs qs)))))))
 
 abbrev cx3 : Lfts 3 → Shares 3 → Cx
-cx3 κs qs = at 4 (mslice-owed bytes (tyRef (named 2) mut (tyInt w8)) 2 4 (lease (κs .1 .1 .0) (qs .1 .1 .0))) (at 5 (sc-here u64) (at 6 (sc-here u64) (at 7 (kept printedstoreys) (at 14 (sc-here u64) (at 16 (msleft bytes (tyRef erased mut (tyInt w8))) (slot 2 off (slot 4 alive (start κs qs))))))))
+cx3 κs qs = at 4 (mslice-owed bytes (tyRef (named 2) mut (tyInt w8)) 2 4 (lease (κs .1 .1 .0) (qs .1 .1 .0))) (at 5 (sc-here u64) (at 6 (sc-here u64) (at 7 (kept printedstoreys) (at 8 (sc-here u64) (at 15 (msleft bytes (tyRef erased mut (tyInt w8))) (slot 2 off (slot 4 alive (start κs qs))))))))
 
 abbrev cx4 : Lfts 3 → Shares 3 → Cx
-cx4 κs qs = at 0 (kept reportjudgment) (at 1 (any-gone (ty header)) (at 5 (sc-here u64) (at 6 (sc-here u64) (at 14 (sc-here u64) (start κs qs)))))
+cx4 κs qs = at 0 (kept reportjudgment) (at 1 (any-gone (ty header)) (at 5 (sc-here u64) (at 6 (sc-here u64) (at 8 (sc-here u64) (start κs qs)))))
 
 abbrev cx5 : Lfts 3 → Shares 3 → Cx
 cx5 κs qs = at 5 (sc-here u64) (at 6 (sc-here u64) (start κs qs))
@@ -111,26 +108,26 @@ body κs qs bs =
     forget 10 (old u64) ▸
     op2 11 sBool ne (cp 6 (sc u64)) (lit w64 0 tt) gone refl (λ u. refl) (λ u. tt) ⨾
     when 11 (λ t. t) (sc sBool) (old sBool) refl (forget 1 (full header) ▸ call the-refused-report (λ s k. k .5) 0 [] (vAt 6 (λ x. x), tt) (λ s. ((sc u64 .is s, refl), tt)) gone tt refl ⨾ forget 5 (old u64) ▸ forget 6 (old u64) ▸ ret tt)
-    (from (cx5 κs qs) (begin 3 (tt, (tt, (tt, (tt, (tt, (tt, (tt, (tt, (tt, (tt, (tt, (tt, (tt, (tt, (tt, (tt, (tt, tt))))))))))))))))) ▸
+    (from (cx5 κs qs) (begin 3 (tt, (tt, (tt, (tt, (tt, (tt, (tt, (tt, (tt, (tt, (tt, (tt, (tt, (tt, (tt, (tt, tt)))))))))))))))) ▸
     lend-on bytes 12 4 2 3 same gone tt refl refl (λ b o. tt) ⨾
     slice bytes (asMut bytes) 13 12 3 (fld 4 1 (owed-len bytes 2 3 (lease (κs .1 .1 .0) (qs .1 .1 .0))) refl) same gone refl refl (λ b o k. tt) ⨾
     call the-put-storeys (λ s k. k .2) 7 (3 ∷ 0 ∷ 1 ∷ []) (mut-at 13 τ13 (λ x. x), (val-at 1 (λ x. x), (sh-at 2 τ2 (λ x. x), (sh-at 3 τ3 (λ x. x), tt)))) (λ s. (mut-is s bytes τ13 3, mut-reads s bytes τ13 3, refl, ((here header .is s, refl), (sh-spares s (R storey) τ2 0, sh-reads s (R storey) τ2 0, refl, (sh-spares s (R member) τ3 1, sh-reads s (R member) τ3 1, refl, tt))))) gone (tt, (tt, (tt, tt))) refl ⨾
     end 3 refl ▸
     from (cx2 κs qs) (back-on bytes 13 4 2 3 (lease (κs .1 .1 .0) (qs .1 .1 .0)) same same refl refl ▸
     over 3 ▸
-    begin 4 (tt, (tt, (tt, (tt, (tt, (tt, (tt, (tt, (tt, (tt, (tt, (tt, (tt, (tt, (tt, (tt, (tt, tt))))))))))))))))) ▸
-    lend-on bytes 15 4 2 4 same gone tt refl refl (λ b o. tt) ⨾
-    slice bytes (asMut bytes) 16 15 4 (fld 4 1 (owed-len bytes 2 4 (lease (κs .1 .1 .0) (qs .1 .1 .0))) refl) same gone refl refl (λ b o k. tt) ⨾
-    call the-put-building (λ s k. k .3) 14 (4 ∷ []) (mut-at 16 τ16 (λ x. x), (val-at 1 (λ x. x), (val-at 7 (λ x. x), tt))) (λ s. (mut-is s bytes τ16 4, mut-reads s bytes τ16 4, refl, ((here header .is s, refl), ((here printedstoreys .is s, refl), tt)))) gone (tt, tt) refl ⨾
+    begin 4 (tt, (tt, (tt, (tt, (tt, (tt, (tt, (tt, (tt, (tt, (tt, (tt, (tt, (tt, (tt, (tt, tt)))))))))))))))) ▸
+    lend-on bytes 14 4 2 4 same gone tt refl refl (λ b o. tt) ⨾
+    slice bytes (asMut bytes) 15 14 4 (fld 4 1 (owed-len bytes 2 4 (lease (κs .1 .1 .0) (qs .1 .1 .0))) refl) same gone refl refl (λ b o k. tt) ⨾
+    call the-put-building (λ s k. k .3) 8 (4 ∷ []) (mut-at 15 τ13 (λ x. x), (val-at 1 (λ x. x), (val-at 7 (λ x. x), tt))) (λ s. (mut-is s bytes τ13 4, mut-reads s bytes τ13 4, refl, ((here header .is s, refl), ((here printedstoreys .is s, refl), tt)))) gone (tt, tt) refl ⨾
     from (cx3 κs qs) (forget 1 (full header) ▸
     forget 7 (full printedstoreys) ▸
     end 4 refl ▸
-    back-on bytes 16 4 2 4 (lease (κs .1 .1 .0) (qs .1 .1 .0)) same same refl refl ▸
+    back-on bytes 15 4 2 4 (lease (κs .1 .1 .0) (qs .1 .1 .0)) same same refl refl ▸
     over 4 ▸
-    call the-written-report (λ s k. k .4) 0 [] (vAt 14 (λ x. x), tt) (λ s. ((sc u64 .is s, refl), tt)) gone tt refl ⨾
+    call the-written-report (λ s k. k .4) 0 [] (vAt 8 (λ x. x), tt) (λ s. ((sc u64 .is s, refl), tt)) gone tt refl ⨾
     from (cx4 κs qs) (forget 5 (old u64) ▸
     forget 6 (old u64) ▸
-    forget 14 (old u64) ▸
+    forget 8 (old u64) ▸
     ret tt))))))
 
 answers : Answers Says.write-report K 2 Code.function body

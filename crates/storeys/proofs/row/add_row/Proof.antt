@@ -17,7 +17,7 @@ enum-told : tie.Need-enum-told
 enum-told c = search needs
 
 returns : tie.Need-returns
-returns c = 
+returns c =
     let a = c .before .before .before .before .before .args in
     let p = c .before .before .before .before .before .pre in
     let j = c .before .before .before .before .judge-member in
@@ -25,7 +25,7 @@ returns c =
     c .add-finding .ensures ∙ with-good (a .t) (a .k) (a .met) (a .m) (g .0 .0) p (finding-same (a .k) (a .met) (a .m) (p .knowledge-level) (p .good) (j .result) (g .0 .0) (j .ensures) (g .1))
 
 returns-2 : tie.Need-returns-2
-returns-2 c = 
+returns-2 c =
     let a = c .before .before .before .args in
     let p = c .before .before .before .pre in
     let j = c .before .before .judge-member in
