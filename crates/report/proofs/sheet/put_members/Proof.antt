@@ -98,18 +98,56 @@ body κs qs bs =
     ret tt))
 
 answers : Answers Says.put-members K 1 Code.function body
-answers κs qs a good pre bs =
-    let k = a .1 .1 .0 in
-    let met = a .1 .1 .1 .0 in
-    let rows = a .1 .1 .1 .1 .0 .now in
-    (λ _. tt) ◂ λ b. ((a .0 .now, b .1, 0), refl, turn-none k met rows (a .0 .now) (a .1 .0 .at) (b .1) (b .5)) ◂ λ vs inv. tt ◂
-    (λ taken. told (ltb-true (vs .2) (length rows) taken) λ l. λ γ. refl ◂ search needs ◂ tt ◂ (refl, refl, l) ◂ λ _.
-    (λ _. (tally-room k met rows (pre .1) (vs .1 .tally) (vs .2) (inv .totals) l (pre .0), omega (arith, inv .place, l, pre .2, inv .size, ap (λ (r : PrintedMembers). r .at) (b .5)))) ◂ λ g. refl ◂ λ back. search needs ◂
-    (length rows - (vs .2 + 1), omega arith, ((g .2 .0, g .1, vs .2 + 1), refl, turn-next k met rows (b .1 .at) (a .0 .now) (vs .0) (vs .1) (vs .2) inv (g .2 .0) (g .1) (pre .1) l (g .5 .0) (g .5 .1 .0) (g .5 .1 .1) back, refl))) ◂
-    λ left. told (ltb-false (vs .2) (length rows) left) λ l.
-    (fix-len (a .0 .ptr) (a .0 .name) (vs .0) (a .0 .now) (inv .size), (tt, (tt, (tt, (refl, tt))))) ◂
-    (let e = ap (λ (r : PrintedMembers). r .at) (b .5) in
-    (end-place k met rows (b .1 .at) (a .0 .now) (vs .0) (vs .1) (vs .2) inv l (a .1 .0 .at) e, (end-totals k met rows (b .1 .at) (a .0 .now) (vs .0) (vs .1) (vs .2) inv l (a .1 .0 .at) e, end-lines k met rows (b .1 .at) (a .0 .now) (vs .0) (vs .1) (vs .2) inv l (a .1 .0 .at) e)))
+answers κs qs a good pre bs = (
+  λ _. tt,
+  λ b.
+      ((a .0 .now, b .1, 0), refl, turn-none (a .1 .1 .0) (a .1 .1 .1 .0) (a .1 .1 .1 .1 .0 .now) (a .0 .now) (a .1 .0 .at) (b .1) (b .5)) ◂ λ vs inv. told (ap (λ (r : PrintedMembers). r .at) (b .5)) λ first. (
+        tt,
+        (
+          λ taken. told (ltb-true (vs .2) (length (a .1 .1 .1 .1 .0 .now)) taken) λ l. λ γ. (
+            refl,
+            (
+              search needs,
+              (
+                tt,
+                (
+                  (refl, refl, l),
+                  λ _. (
+                    λ _. (tally-room (a .1 .1 .0) (a .1 .1 .1 .0) (a .1 .1 .1 .1 .0 .now) (pre .1) (vs .1 .tally) (vs .2) (inv .totals) l (pre .0), omega (arith, inv .place, l, pre .2, inv .size, first)),
+                    λ g. (
+                      refl,
+                      λ back. (
+                        search needs,
+                        (
+                          length (a .1 .1 .1 .1 .0 .now) - (vs .2 + 1),
+                          omega arith,
+                          (
+                            (g .2 .0, g .1, vs .2 + 1),
+                            refl,
+                            turn-next (a .1 .1 .0) (a .1 .1 .1 .0) (a .1 .1 .1 .1 .0 .now) (b .1 .at) (a .0 .now) (vs .0) (vs .1) (vs .2) inv (g .2 .0) (g .1) (pre .1) l (g .5 .0) (g .5 .1 .0) (g .5 .1 .1) back,
+                            refl,
+                          ),
+                        ),
+                      ),
+                    ),
+                  ),
+                ),
+              ),
+            ),
+          ),
+          λ left. told (ltb-false (vs .2) (length (a .1 .1 .1 .1 .0 .now)) left) λ l. (
+            (fix-len (a .0 .ptr) (a .0 .name) (vs .0) (a .0 .now) (inv .size), (tt, (tt, (tt, (refl, tt))))),
+            (
+              end-place (a .1 .1 .0) (a .1 .1 .1 .0) (a .1 .1 .1 .1 .0 .now) (b .1 .at) (a .0 .now) (vs .0) (vs .1) (vs .2) inv l (a .1 .0 .at) first,
+              (
+                end-totals (a .1 .1 .0) (a .1 .1 .1 .0) (a .1 .1 .1 .1 .0 .now) (b .1 .at) (a .0 .now) (vs .0) (vs .1) (vs .2) inv l (a .1 .0 .at) first,
+                end-lines (a .1 .1 .0) (a .1 .1 .1 .0) (a .1 .1 .1 .1 .0 .now) (b .1 .at) (a .0 .now) (vs .0) (vs .1) (vs .2) inv l (a .1 .0 .at) first,
+              ),
+            ),
+          ),
+        ),
+      ),
+)
 
 pub put-members-spec : {M : Type 1} → statement M
 unfolding Code.routine tablesOf

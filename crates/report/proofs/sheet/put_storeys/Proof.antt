@@ -136,20 +136,81 @@ body κs qs bs =
     ret tt))
 
 answers : Answers Says.put-storeys K 1 Code.function body
-answers κs qs a good pre bs =
-    let h = a .1 .0 in
-    let ss = a .1 .1 .0 .now in
-    let ms = a .1 .1 .1 .0 .now in
-    (λ _. tt) ◂ λ k. (λ _. tt) ◂ λ f. ((a .0 .now, f .1, 0, 0), refl, passed-none (k .1) ss ms (a .0 .now) (f .1) (f .5)) ◂ λ vs inv. tt ◂
-    (λ taken. told (ltb-true (vs .3) (length ss) taken) λ l. search needs ◂ tt ◂ (refl, refl, l) ◂ λ _. (λ _. tt) ◂ λ c.
-    told (part-ends h ss ms (pre .0) (k .1) (vs .3) (vs .2) (c .1) (k .5) l (inv .start) (c .5)) λ ends. told (members-most h ss ms (pre .0)) λ most.
-    told (part-size h ss ms (pre .0) (k .1) (vs .3) (vs .2) (c .1) (k .5) l (inv .start) (c .5)) λ size.
-    omega (arith, ends, most) ◂ λ γ. refl ◂ omega (arith, ends, most) ◂ tt ◂ omega arith ◂ (refl, refl, omega arith, omega (arith, ends)) ◂ λ p. ap (vint w64) (p .1) ◂
-    (λ _. (part-clear h ss ms (pre .0) (k .1) (vs .3) (vs .2) (c .1) (k .5) l (inv .start) (c .5), omega (arith, pre .1, inv .place, inv .size, l, ends, size))) ◂ λ g. refl ◂ λ back. search needs ◂
-    (length ss - (vs .3 + 1), omega arith, ((g .2 .0, g .1, vs .2 + c .1, vs .3 + 1), refl, passed-next (k .1) ss ms (a .0 .now) (vs .0) (vs .1) (vs .2) (vs .3) inv (c .1) _ l (c .5) (part-is ss ms (vs .3) (vs .2) (c .1) (inv .start) (c .5)) size (g .2 .0) (g .1) (g .5 .0) (g .5 .1 .0) (g .5 .1 .1) back, refl))) ◂
-    λ left. told (ltb-false (vs .3) (length ss) left) λ l.
-    (fix-len (a .0 .ptr) (a .0 .name) (vs .0) (a .0 .now) (inv .size), (tt, (refl, (refl, tt)))) ◂
-    (end-place (k .1) ss ms (a .0 .now) (vs .0) (vs .1) (vs .2) (vs .3) inv l h (pre .0), (end-risky (k .1) ss ms (a .0 .now) (vs .0) (vs .1) (vs .2) (vs .3) inv l h (k .5), end-lines (k .1) ss ms (a .0 .now) (vs .0) (vs .1) (vs .2) (vs .3) inv l h (k .5)))
+answers κs qs a good pre bs = (
+  λ _. tt,
+  λ k. (
+    λ _. tt,
+    λ f.
+        ((a .0 .now, f .1, 0, 0), refl, passed-none (k .1) (a .1 .1 .0 .now) (a .1 .1 .1 .0 .now) (a .0 .now) (f .1) (f .5)) ◂ λ vs inv. (
+          tt,
+          (
+            λ taken. told (ltb-true (vs .3) (length (a .1 .1 .0 .now)) taken) λ l. (
+              search needs,
+              (
+                tt,
+                (
+                  (refl, refl, l),
+                  λ _. (
+                    λ _. tt,
+                    λ c.
+                        told (part-ends (a .1 .0) (a .1 .1 .0 .now) (a .1 .1 .1 .0 .now) (pre .0) (k .1) (vs .3) (vs .2) (c .1) (k .5) l (inv .start) (c .5)) λ ends. told (members-most (a .1 .0) (a .1 .1 .0 .now) (a .1 .1 .1 .0 .now) (pre .0)) λ most. told (part-size (a .1 .0) (a .1 .1 .0 .now) (a .1 .1 .1 .0 .now) (pre .0) (k .1) (vs .3) (vs .2) (c .1) (k .5) l (inv .start) (c .5)) λ size. (
+                          omega (arith, ends, most),
+                          λ γ. (
+                            refl,
+                            (
+                              omega (arith, ends, most),
+                              (
+                                tt,
+                                (
+                                  omega arith,
+                                  (
+                                    (refl, refl, omega arith, omega (arith, ends)),
+                                    λ p. (
+                                      ap (vint w64) (p .1),
+                                      (
+                                        λ _. (part-clear (a .1 .0) (a .1 .1 .0 .now) (a .1 .1 .1 .0 .now) (pre .0) (k .1) (vs .3) (vs .2) (c .1) (k .5) l (inv .start) (c .5), omega (arith, pre .1, inv .place, inv .size, l, ends, size)),
+                                        λ g. (
+                                          refl,
+                                          λ back. (
+                                            search needs,
+                                            (
+                                              length (a .1 .1 .0 .now) - (vs .3 + 1),
+                                              omega arith,
+                                              (
+                                                (g .2 .0, g .1, vs .2 + c .1, vs .3 + 1),
+                                                refl,
+                                                passed-next (k .1) (a .1 .1 .0 .now) (a .1 .1 .1 .0 .now) (a .0 .now) (vs .0) (vs .1) (vs .2) (vs .3) inv (c .1) _ l (c .5) (part-is (a .1 .1 .0 .now) (a .1 .1 .1 .0 .now) (vs .3) (vs .2) (c .1) (inv .start) (c .5)) size (g .2 .0) (g .1) (g .5 .0) (g .5 .1 .0) (g .5 .1 .1) back,
+                                                refl,
+                                              ),
+                                            ),
+                                          ),
+                                        ),
+                                      ),
+                                    ),
+                                  ),
+                                ),
+                              ),
+                            ),
+                          ),
+                        ),
+                  ),
+                ),
+              ),
+            ),
+            λ left. told (ltb-false (vs .3) (length (a .1 .1 .0 .now)) left) λ l. (
+              (fix-len (a .0 .ptr) (a .0 .name) (vs .0) (a .0 .now) (inv .size), (tt, (refl, (refl, tt)))),
+              (
+                end-place (k .1) (a .1 .1 .0 .now) (a .1 .1 .1 .0 .now) (a .0 .now) (vs .0) (vs .1) (vs .2) (vs .3) inv l (a .1 .0) (pre .0),
+                (
+                  end-risky (k .1) (a .1 .1 .0 .now) (a .1 .1 .1 .0 .now) (a .0 .now) (vs .0) (vs .1) (vs .2) (vs .3) inv l (a .1 .0) (k .5),
+                  end-lines (k .1) (a .1 .1 .0 .now) (a .1 .1 .1 .0 .now) (a .0 .now) (vs .0) (vs .1) (vs .2) (vs .3) inv l (a .1 .0) (k .5),
+                ),
+              ),
+            ),
+          ),
+        ),
+  ),
+)
 
 pub put-storeys-spec : {M : Type 1} → statement M
 unfolding Code.routine tablesOf
