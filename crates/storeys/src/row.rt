@@ -1,4 +1,4 @@
-// One record, by value: what the loops over rows do with each. The totals of a storey are offered to whoever judges the members in a loop of their own.
+// One record, by value: what the loops over rows do with each. The totals are offered to whoever judges a storey's members in a loop of its own.
 ghost use mathlib.Core.List.{[], _∷_};
 ghost use mathlib.Core.Path.{_≡_};
 ghost use Prim.Native.Nat.{_+_, _*_, _≤_};
@@ -18,9 +18,9 @@ use members::finding::judge_member;
 use members::finding::known;
 use members::limits::Fraction;
 use members::tables::Share;
+use members::units::Ratio;
 use records::Member;
 use records::Storey;
-use records::ranges::member_fault;
 use records::ranges::storey_fault;
 
 // The most members of a storey.
@@ -31,9 +31,6 @@ const SHEAR_MOST: u64 = 9_999_999;
 
 // What no total of so many members passes.
 const TOTAL_MOST: u64 = 2_000_000_000;
-
-// The most that an axial ratio is.
-const RATIO_MOST: u64 = 9_999_999;
 
 // The totals over some members of a storey.
 pub struct Tally {
@@ -123,7 +120,7 @@ fn takes_one(t: Tally, nd: u64, shear: u64) -> bool
     if TOTAL_MOST < t.damage {
         return false;
     }
-    if RATIO_MOST < nd {
+    if Ratio::CAP < nd {
         return false;
     }
     shear <= SHEAR_MOST
