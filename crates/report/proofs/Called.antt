@@ -1,7 +1,7 @@
 -- The report call: its refusals in their order, the sheet's length, and the buffer afterwards.
 use Prim.Native.Nat.{ℕ, zero, suc, _+_, _*_, _-_, _≤_}
 use native.Mathlib.Omega.{arith}
-use mathlib.Core.Bool.{Bool, true, false}
+use mathlib.Core.Bool.{Bool, true, false, _||_}
 use mathlib.Core.List.{List, [], _∷_}
 use mathlib.Core.Path.{_≡_, refl, sym, _∙_, ap}
 use lib.Dec.{leb, eqb}
@@ -14,17 +14,13 @@ use Rattle.records.proofs.Firsts.{last-of}
 use Rattle.records.proofs.Validity.{clear}
 use Rattle.storeys.specs.Storey.{publishedRules}
 use Rattle.checks.specs.Rows.{storeyIn, membersBefore, membersOf, recordsFault}
-use Rattle.storeys.specs.Building.{tilted, buildingRisky, buildingAnswerBy, placeIn, Answers}
-use Rattle.storeys.specs.declared.BuildingFinding.{BuildingFinding}
-use Rattle.storeys.specs.declared.BuildingAnswer.{BuildingAnswer}
-use Rattle.storeys.specs.declared.BuildingAnswer.the-variants as building-answer
-use Rattle.storeys.proofs.Returned.{answer-same}
+use Rattle.storeys.specs.Building.{tilted, someRisky, buildingRisky}
 use Rattle.checks.proofs.Refusals.{None, one, rest, in-order-clear}
 use Rattle.report.specs.declared.ReportAnswer.{ReportAnswer}
 use Rattle.report.specs.declared.ReportAnswer.the-variants.{Written, Refused}
 use Rattle.columns.specs.Bytes.{stamped}
 use Rattle.report.specs.Sheet.{buildingLine, storeyLines, storeysLines, sheet, lengthFault, reportFault, reportAnswer, bufferAfter, returnedReport, reportReturned}
-use Rattle.report.specs.Printing.{lineOf, sizeOf, Few, faultBy}
+use Rattle.report.specs.Printing.{sizeOf, Few, faultBy}
 use Rattle.columns.proofs.Stamps.{stamped-both, stamped-front}
 use Rattle.report.proofs.Rows.{length-building-line, length-storey-lines}
 use Rattle.checks.proofs.RowLaws.{storeys-most, members-most, before-end}
@@ -58,52 +54,18 @@ module _ (h : Header) (ss : List Storey) (ms : List Member) (none : recordsFault
       let b = buildingLine (tilted h) (buildingRisky publishedRules h ss ms) in
       omega (arith, length-append (storeysLines (h .knowledge) ss ms 0 (length ss)) b, length-printed, length-building-line (tilted h) (buildingRisky publishedRules h ss ms))
 
--- ---- what the call on a building answers
-few-judged : (b : BuildingAnswer) (f : BuildingFinding) (storeys members : ℕ) → b ≡ building-answer.Judged f → (storeys ≤ 10) × (members ≤ 2_000) → Few b storeys members
-few-judged b f storeys members e l = rw e l
+-- ---- the refusals
+module _ (h : Header) (ss : List Storey) (ms : List Member) (first : ℕ) (e : first ≡ recordsFault h ss ms) where
+  pub few : Few first (length ss) (length ms)
+  few z = (storeys-most h ss ms (sym e ∙ z), members-most h ss ms (sym e ∙ z))
 
-few-refused : (b : BuildingAnswer) (n storeys members : ℕ) → b ≡ building-answer.Refused n → Few b storeys members
-few-refused b n storeys members e = rw e tt
-
-fault-judged : (b : BuildingAnswer) (f : BuildingFinding) (storeys members room : ℕ) → b ≡ building-answer.Judged f → faultBy b storeys members room ≡ lengthFault (sizeOf storeys members) room
-fault-judged b f storeys members room e = rw e
-
-fault-refused : (b : BuildingAnswer) (n storeys members room : ℕ) → b ≡ building-answer.Refused n → faultBy b storeys members room ≡ n
-fault-refused b n storeys members room e = rw e
-
-line-judged : (b : BuildingAnswer) (f : BuildingFinding) → b ≡ building-answer.Judged f → lineOf b ≡ buildingLine (f .tilted) (f .risky)
-line-judged b f e = rw e
-
-module _ (h : Header) (ss : List Storey) (ms : List Member) (b : BuildingAnswer) (says : Answers publishedRules h ss ms b) where
-  judged : eqb (recordsFault h ss ms) 0 ≡ true → b ≡ building-answer.Judged (record { tilted = tilted h; risky = buildingRisky publishedRules h ss ms; place = placeIn b })
-  unfolding buildingAnswerBy
-  judged e = answer-same publishedRules h ss ms b says ∙ rw e
-
-  refused-by : eqb (recordsFault h ss ms) 0 ≡ false → b ≡ building-answer.Refused (recordsFault h ss ms)
-  unfolding buildingAnswerBy
-  refused-by e = answer-same publishedRules h ss ms b says ∙ rw e
-
-  few-by : (t : Bool) → eqb (recordsFault h ss ms) 0 ≡ t → Few b (length ss) (length ms)
-  few-by true e =
-      let none = eqb-true (recordsFault h ss ms) 0 e in
-      few-judged b _ (length ss) (length ms) (judged e) (storeys-most h ss ms none, members-most h ss ms none)
-  few-by false e = few-refused b _ (length ss) (length ms) (refused-by e)
-
-  pub few : Few b (length ss) (length ms)
-  few = few-by (eqb (recordsFault h ss ms) 0) refl
-
-  fault-by : (t : Bool) (room : ℕ) → eqb (recordsFault h ss ms) 0 ≡ t → faultBy b (length ss) (length ms) room ≡ reportFault h ss ms room
+  fault-by : (t : Bool) (room : ℕ) → eqb first 0 ≡ t → faultBy first (length ss) (length ms) room ≡ reportFault h ss ms room
   unfolding reportFault
-  fault-by true room e =
-      fault-judged b _ (length ss) (length ms) room (judged e)
-      ∙ rw (e, length-sheet h ss ms (eqb-true (recordsFault h ss ms) 0 e)) (sym (last-of (lengthFault (sizeOf (length ss) (length ms)) room)))
-  fault-by false room e = fault-refused b _ (length ss) (length ms) room (refused-by e) ∙ rw e
+  fault-by true room q = rw (← e, q, length-sheet h ss ms (sym e ∙ eqb-true first 0 q)) (sym (last-of (lengthFault (sizeOf (length ss) (length ms)) room)))
+  fault-by false room q = rw (← e, q)
 
-  pub fault-is : (z room : ℕ) → z ≡ faultBy b (length ss) (length ms) room → z ≡ reportFault h ss ms room
-  fault-is z room e = e ∙ fault-by (eqb (recordsFault h ss ms) 0) room refl
-
-  pub line-is : recordsFault h ss ms ≡ 0 → lineOf b ≡ buildingLine (tilted h) (buildingRisky publishedRules h ss ms)
-  line-is none = line-judged b _ (judged (eq-eqb _ _ none))
+  pub fault-is : (z room : ℕ) → z ≡ faultBy first (length ss) (length ms) room → z ≡ reportFault h ss ms room
+  fault-is z room q = q ∙ fault-by (eqb first 0) room refl
 
 -- ---- a refusal
 module _ (h : Header) (ss : List Storey) (ms : List Member) (before : List ℕ) (z : ℕ) (e : z ≡ reportFault h ss ms (length before)) where
@@ -135,10 +97,10 @@ module _ (h : Header) (ss : List Storey) (ms : List Member) (before : List ℕ) 
     unfolding reportAnswer
     answer-written r n q l = ap returnedReport q ∙ rw (← e, eq-eqb z 0 zero-fault, length-sheet h ss ms building-clear, l)
 
-    pub buffer-written : (b : BuildingAnswer) → Answers publishedRules h ss ms b → (filled ended : List ℕ) (p : ℕ) → filled ≡ stamped before 0 (storeysLines (h .knowledge) ss ms 0 (length ss)) → p ≡ 86 * length ms + 74 * length ss → ended ≡ stamped filled p (lineOf b) → ended ≡ bufferAfter h ss ms before
-    unfolding bufferAfter sheet
-    buffer-written b says filled ended p f l q =
+    pub buffer-written : (filled ended : List ℕ) (p : ℕ) (risky : Bool) → filled ≡ stamped before 0 (storeysLines (h .knowledge) ss ms 0 (length ss)) → risky ≡ someRisky publishedRules h ss ms → p ≡ 86 * length ms + 74 * length ss → ended ≡ stamped filled p (buildingLine (tilted h) (risky || tilted h)) → ended ≡ bufferAfter h ss ms before
+    unfolding bufferAfter sheet buildingRisky
+    buffer-written filled ended p risky f r l q =
         q
-        ∙ rw (f, line-is h ss ms b says building-clear, ← e, eq-eqb z 0 zero-fault)
+        ∙ rw (f, r, ← e, eq-eqb z 0 zero-fault)
         (stamped-both (storeysLines (h .knowledge) ss ms 0 (length ss)) (buildingLine (tilted h) (buildingRisky publishedRules h ss ms)) before 0 p (omega (arith, l, length-printed h ss ms building-clear))
         ∙ stamped-front (sheet h ss ms) before sheet-fits)

@@ -1,24 +1,20 @@
--- The lines of one record, and the refusals of the report call, by what the judging calls answer.
+-- The lines of one record, and the refusals of the report call.
 use Prim.Native.Nat.{ℕ, _+_, _*_, _≤_, _<_}
 use native.Mathlib.Omega.{arith}
+use mathlib.Core.Bool.{Bool}
 use mathlib.Core.List.{List, [], _∷_}
 use mathlib.Core.Path.{_≡_, refl, ap, _∙_}
 use lib.ListN.{length}
-use borrow.Author.Tests.{le-leb, lt-leb}
+use borrow.Author.Tests.{eq-eqb, ne-eqb, le-leb, lt-leb}
 use Rattle.members.specs.Class.{code}
 use Rattle.members.specs.Finding.{flag}
 use Rattle.members.specs.declared.finding.Finding.{Finding}
 use Rattle.storeys.specs.declared.StoreyFinding.{StoreyFinding}
-use Rattle.storeys.specs.declared.StoreyAnswer.{StoreyAnswer}
-use Rattle.storeys.specs.declared.StoreyAnswer.the-variants as storey-answer
-use Rattle.storeys.specs.declared.BuildingFinding.{BuildingFinding}
-use Rattle.storeys.specs.declared.BuildingAnswer.{BuildingAnswer}
-use Rattle.storeys.specs.declared.BuildingAnswer.the-variants as building-answer
 use Rattle.columns.specs.Line.{line}
 use Rattle.columns.specs.Bytes.{stamped, putAt, placeAfter}
 use Rattle.columns.proofs.Stamps.{length-line, put-fits, place-fits}
 use Rattle.report.specs.Sheet.{memberLine, storeyLine, buildingLine, refusalLine}
-use Rattle.report.specs.Printing.{lineOf, noFinding, findingIn, faultBy, sizeOf, Few}
+use Rattle.report.specs.Printing.{faultBy, sizeOf}
 
 pub member-line-is : (number c o : ℕ) (f : Finding) → c ≡ code (f .class) → o ≡ flag (f .over) → line (77 ∷ []) (number ∷ c ∷ f .m .0 ∷ f .«m_limit» .0 ∷ f .rotation .0 ∷ f .«rotation_limit» .0 ∷ o ∷ []) ≡ memberLine number f
 unfolding memberLine
@@ -37,27 +33,23 @@ pub storey-line-is : (number r : ℕ) (f : StoreyFinding) → r ≡ flag (f .ris
 unfolding storeyLine
 storey-line-is number r f e = rw e
 
-pub building-line-is : (t r : ℕ) (a : BuildingAnswer) (f : BuildingFinding) → a ≡ building-answer.Judged f → t ≡ flag (f .tilted) → r ≡ flag (f .risky) → line (66 ∷ []) (t ∷ r ∷ []) ≡ lineOf a
+pub storey-line-of : (out bytes : List ℕ) (at number : ℕ) (f g : StoreyFinding) → out ≡ stamped bytes at (storeyLine number f) → f ≡ g → out ≡ stamped bytes at (storeyLine number g)
+storey-line-of out bytes at number f g e q = rw (← q) e
+
+pub building-line-is : (t r : ℕ) (tilt risky : Bool) → t ≡ flag tilt → r ≡ flag risky → line (66 ∷ []) (t ∷ r ∷ []) ≡ buildingLine tilt risky
 unfolding buildingLine
-building-line-is t r a f e g h = rw (e, g, h)
+building-line-is t r tilt risky g h = rw (g, h)
 
 pub refusal-line-is : (refusal place : ℕ) → line (69 ∷ []) (refusal ∷ place ∷ []) ≡ refusalLine refusal place
 unfolding refusalLine
 refusal-line-is refusal place = refl
 
-pub no-line : (bytes : List ℕ) (at : ℕ) (a : BuildingAnswer) (n : ℕ) → a ≡ building-answer.Refused n → bytes ≡ stamped bytes at (lineOf a)
-unfolding stamped
-no-line bytes at a n e = rw e
+module _ (first storeys members room : ℕ) where
+  pub fault-first : (first ≡ 0 → ⊥) → first ≡ faultBy first storeys members room
+  fault-first h = rw (ne-eqb first 0 h)
 
-pub no-finding : (a : StoreyAnswer) (n : ℕ) → a ≡ storey-answer.Refused n → noFinding ≡ findingIn a
-no-finding a n e = rw e
+  pub fault-none : first ≡ 0 → sizeOf storeys members ≤ room → 0 ≡ faultBy first storeys members room
+  fault-none e h = rw (eq-eqb first 0 e, le-leb (sizeOf storeys members) room h)
 
-module _ (a : BuildingAnswer) (f : BuildingFinding) (storeys members : ℕ) (e : a ≡ building-answer.Judged f) where
-  pub few-rows : Few a storeys members → (storeys ≤ 10) × (members ≤ 2_000)
-  few-rows h = rw e at h
-
-  pub fault-none : (room : ℕ) → sizeOf storeys members ≤ room → 0 ≡ faultBy a storeys members room
-  fault-none room h = rw e (simp (le-leb _ _ h))
-
-  pub fault-nine : (room : ℕ) → room < sizeOf storeys members → 9 ≡ faultBy a storeys members room
-  fault-nine room h = rw e (simp (lt-leb _ _ h))
+  pub fault-nine : first ≡ 0 → room < sizeOf storeys members → 9 ≡ faultBy first storeys members room
+  fault-nine e h = rw (eq-eqb first 0 e, lt-leb (sizeOf storeys members) room h)

@@ -1,30 +1,33 @@
 -- The loops over the rows that are printed: one turn, and the end.
-use Prim.Native.Nat.{ℕ, _+_, _*_, _-_, _≤_, _<_}
+use Prim.Native.Nat.{ℕ, _+_, _*_, _≤_, _<_}
 use native.Mathlib.Omega.{arith}
 use native.Mathlib.Numerals.{add-one}
-use mathlib.Core.Bool.{Bool, true, false}
+use mathlib.Core.Bool.{Bool, true, false, _||_}
 use mathlib.Core.List.{List, [], _∷_}
-use mathlib.Core.Path.{_≡_, refl, sym, _∙_}
+use mathlib.Core.Path.{_≡_, refl, ap, sym, _∙_}
 use lib.ListN.{length, drop, length-append, drop-of-length-le}
 use lib.Seq.{drop-cons}
-use borrow.Author.Tests.{eq-eqb}
 use Rattle.records.specs.Notation.{pick}
-use Rattle.records.specs.Records.{memberFault, storeyFault}
+use Rattle.records.specs.Blank.{noMember}
+use Rattle.records.specs.Records.{storeyFault}
 use Rattle.records.specs.declared.Storey.{Storey}
 use Rattle.records.specs.declared.Member.{Member}
+use Rattle.records.proofs.Validity.{count-most}
 use Rattle.members.specs.Finding.{finding, knowledge}
 use Rattle.members.specs.declared.finding.Finding.{Finding}
 use Rattle.storeys.specs.declared.StoreyFinding.{StoreyFinding}
-use Rattle.storeys.specs.declared.StoreyAnswer.{StoreyAnswer}
-use Rattle.storeys.specs.Storey.{publishedRules, meetsWallShare, storeyFinding, knowledgeFault, storeyCallFault, storeyAnswerBy, returnedStorey, storeyReturned}
+use Rattle.storeys.specs.declared.row.Tally.{Tally}
+use Rattle.storeys.specs.Storey.{publishedRules, meetsWallShare, storeyRisky, storeyFinding, knowledgeFault, storeyCallFault}
+use Rattle.storeys.specs.Totals.{foundBy, wallsSuffice}
+use Rattle.storeys.specs.Tally.{added, tallyOf, Rows}
+use Rattle.storeys.proofs.Loops.{Going, going-none, going-next, going-all}
+use Rattle.storeys.proofs.Called.{walls-are, found-is}
 use Rattle.checks.specs.Rows.{countFault, memberIn, memberRowsFault}
-use Rattle.records.specs.Blank.{noMember}
-use Rattle.storeys.proofs.Returned.{storey-answer-is}
-use Rattle.checks.proofs.Refusals.{None, one, rest, in-order-clear}
-use Rattle.checks.proofs.RowLaws.{row-good}
+use Rattle.checks.proofs.Refusals.{None, one, rest, in-order-clear, count-clear}
 use Rattle.columns.specs.Bytes.{stamped}
+use Rattle.report.specs.declared.printed.PrintedMembers.{PrintedMembers}
 use Rattle.report.specs.Sheet.{memberLine, storeyLine, buildingLine, memberLines, storeyLines}
-use Rattle.report.specs.Printing.{findingIn}
+use Rattle.report.specs.Printing.{begunAt}
 use Rattle.columns.proofs.Stamps.{stamped-none, stamped-both, length-line}
 
 -- ---- lengths
@@ -53,22 +56,42 @@ length-storey-lines k s ms =
     let f = storeyFinding publishedRules k (s .shear) ms in
     omega (arith, length-append (memberLines k met ms) (storeyLine (s .number) f), length-member-lines k met ms, length-storey-line (s .number) f)
 
--- ---- the members of a storey
-module _ (k : ℕ) (met : Bool) (rows : List Member) where
-  pub member-good : memberRowsFault rows ≡ 0 → (j : ℕ) → j < length rows → memberFault (memberIn rows j) ≡ 0
-  member-good e j l = one (row-good rows e j l)
+-- ---- the members of a storey: what holds before each turn, of the bytes and of the totals at once
+module _ (k : ℕ) (met : Bool) (rows : List Member) (at : ℕ) (before : List ℕ) where
+  pub record Turn (out : List ℕ) (r : PrintedMembers) (j : ℕ) : Type 0 where
+    pub place : r .at ≡ at + 86 * j
+    pub size : length out ≡ length before
+    pub totals : Going k met rows (r .tally) j
+    pub lines : stamped out (r .at) (memberLines k met (drop j rows)) ≡ stamped before at (memberLines k met rows)
 
-  pub members-next : (out before turned : List ℕ) (p next j : ℕ) → stamped out p (memberLines k met (drop j rows)) ≡ before → j < length rows → turned ≡ stamped out p (memberLine (memberIn rows j .number) (finding k met (memberIn rows j))) → next ≡ p + 86 → stamped turned next (memberLines k met (drop (j + 1) rows)) ≡ before
-  unfolding memberLines
-  members-next out before turned p next j e l q n =
-      let m = memberIn rows j in
-      let b = memberLine (m .number) (finding k met m) in
-      rw (q, stamped-both b (memberLines k met (drop (j + 1) rows)) out p next (omega (arith, n, length-member-line (m .number) (finding k met m))), add-one j)
-      (rw (drop-cons rows j noMember l) at e)
+  module _ (out : List ℕ) (r : PrintedMembers) (j : ℕ) (u : Turn out r j) where
+    pub turn-next : (turned : List ℕ) (z : PrintedMembers) → Rows rows → j < length rows → z .at ≡ r .at + 86 → z .tally ≡ added (r .tally) k met (memberIn rows j) → turned ≡ stamped out (r .at) (memberLine (memberIn rows j .number) (finding k met (memberIn rows j))) → length turned ≡ length out → Turn turned z (j + 1)
+    unfolding memberLines
+    turn-next turned z g l e t b s =
+        let m = memberIn rows j in
+        let line = memberLine (m .number) (finding k met m) in
+        record {
+          place = omega (arith, e, u .place);
+          size = s ∙ u .size;
+          totals = going-next k met rows g (r .tally) j (u .totals) l (z .tally) t;
+          lines =
+              rw (b, stamped-both line (memberLines k met (drop (j + 1) rows)) out (r .at) (z .at) (omega (arith, e, length-member-line (m .number) (finding k met m))), add-one j)
+              (rw (drop-cons rows j noMember l) at (u .lines));
+        }
 
-  pub members-end : (out before : List ℕ) (p j : ℕ) → stamped out p (memberLines k met (drop j rows)) ≡ before → length rows ≤ j → out ≡ before
-  unfolding memberLines
-  members-end out before p j e l = sym (stamped-none out p) ∙ (rw (drop-of-length-le rows l) at e)
+    module _ (l : length rows ≤ j) (start : ℕ) (e : at ≡ start) where
+      pub end-place : r .at ≡ start + 86 * length rows
+      end-place = omega (arith, u .place, u .totals .within, l, e)
+
+      pub end-totals : r .tally ≡ tallyOf k met rows
+      end-totals = going-all k met rows (r .tally) j (u .totals) l
+
+      pub end-lines : out ≡ stamped before start (memberLines k met rows)
+      unfolding memberLines
+      end-lines = sym (stamped-none out (r .at)) ∙ (rw (drop-of-length-le rows l, e) at (u .lines))
+
+pub turn-none : (k : ℕ) (met : Bool) (rows : List Member) (before : List ℕ) (at : ℕ) (r : PrintedMembers) → r ≡ begunAt at → Turn k met rows (r .at) before before r 0
+turn-none k met rows before at r e = rw e (record { place = omega arith; size = refl; totals = going-none k met rows; lines = refl })
 
 -- ---- a storey
 test-clear : (t : Bool) (r : ℕ) → 0 < r → pick t 0 r ≡ 0 → t ≡ true
@@ -83,16 +106,23 @@ module _ (k : ℕ) (s : Storey) (rows : List Member) (none : storeyCallFault k s
   pub storey-level : knowledge k ≡ true
   storey-level = test-clear (knowledge k) 3 (omega arith) (one (rest clear))
 
-  pub storey-rows : memberRowsFault rows ≡ 0
-  storey-rows = one (rest (rest (rest clear)))
+  storey-good : storeyFault s ≡ 0
+  storey-good = one (rest (rest clear))
 
-  pub storey-found : (a : StoreyAnswer) (f : StoreyFinding) → returnedStorey a ≡ storeyReturned k s rows → f ≡ findingIn a → f ≡ storeyFinding publishedRules k (s .shear) rows
-  unfolding storeyAnswerBy
-  storey-found a f e q = q ∙ rw (storey-answer-is a (storeyAnswerBy publishedRules k s rows) e, eq-eqb _ _ none)
+  pub storey-rows : Rows rows
+  storey-rows = record { good = one (rest (rest (rest clear))); most = omega (arith, count-clear (s .count) (length rows) (one clear), count-most s storey-good) }
 
-  pub storey-done : (bytes filled ended : List ℕ) (at p : ℕ) (met : Bool) (f : StoreyFinding) → f ≡ storeyFinding publishedRules k (s .shear) rows → met ≡ f .«walls_suffice» → filled ≡ stamped bytes at (memberLines k met rows) → p ≡ at + 86 * length rows → ended ≡ stamped filled p (storeyLine (s .number) f) → ended ≡ stamped bytes at (storeyLines k s rows)
-  unfolding storeyLines storeyFinding
-  storey-done bytes filled ended at p met f e w a n b =
-      b
-      ∙ rw (a, w, e)
-      (stamped-both (memberLines k (meetsWallShare (s .shear) rows) rows) (storeyLine (s .number) (storeyFinding publishedRules k (s .shear) rows)) bytes at p (omega (arith, n, length-member-lines k (meetsWallShare (s .shear) rows) rows)))
+  module _ (met : Bool) (t : Tally) (w : met ≡ wallsSuffice (s .shear) rows) (q : t ≡ tallyOf k met rows) where
+    finding-is : foundBy s met t ≡ storeyFinding publishedRules k (s .shear) rows
+    finding-is = found-is rows storey-rows s storey-good k met t (foundBy s met t) w q refl
+
+    pub storey-done : (bytes filled ended : List ℕ) (at p : ℕ) → filled ≡ stamped bytes at (memberLines k met rows) → p ≡ at + 86 * length rows → ended ≡ stamped filled p (storeyLine (s .number) (foundBy s met t)) → ended ≡ stamped bytes at (storeyLines k s rows)
+    unfolding storeyLines
+    storey-done bytes filled ended at p a n b =
+        b
+        ∙ rw (finding-is, a, w ∙ walls-are rows storey-rows s storey-good)
+        (stamped-both (memberLines k (meetsWallShare (s .shear) rows) rows) (storeyLine (s .number) (storeyFinding publishedRules k (s .shear) rows)) bytes at p (omega (arith, n, length-member-lines k (meetsWallShare (s .shear) rows) rows)))
+
+    pub storey-risky : (z before : Bool) → z ≡ (before || foundBy s met t .risky) → z ≡ (before || storeyRisky publishedRules k (s .shear) rows)
+    unfolding storeyFinding
+    storey-risky z before e = e ∙ ap (λ (f : StoreyFinding). before || f .risky) finding-is

@@ -2,21 +2,25 @@
 use Prim.Native.Nat.{ℕ, suc, _+_, _*_, _-_, _≤_, _<_}
 use native.Mathlib.Omega.{arith}
 use native.Mathlib.Numerals.{add-one}
+use mathlib.Core.Bool.{_||_}
 use mathlib.Core.List.{List}
-use mathlib.Core.Path.{_≡_, sym, _∙_}
+use mathlib.Core.Path.{_≡_, refl, ap, sym, _∙_}
 use lib.ListN.{length, take, drop}
 use borrow.Author.Tests.{eq-eqb}
 use Rattle.records.specs.declared.Header.{Header}
 use Rattle.records.specs.declared.Storey.{Storey}
 use Rattle.records.specs.declared.Member.{Member}
-use Rattle.records.specs.Notation.{total}
-use Rattle.storeys.specs.Storey.{knowledgeFault, storeyCallFault}
+use Rattle.records.specs.Notation.{total, anyBelow}
+use Rattle.storeys.specs.Storey.{publishedRules, storeyRisky, knowledgeFault, storeyCallFault}
+use Rattle.storeys.specs.Building.{riskyAt, someRisky}
 use Rattle.checks.specs.Rows.{countFault, storeyIn, membersBefore, membersOf, recordsFault}
 use Rattle.checks.proofs.Refusals.{end, also, one, rest, in-order-none}
 use Rattle.checks.proofs.RowLaws.{members-counted, rows, total-counted, before-end}
 use Rattle.storeys.proofs.Accepted.{known-level}
-use Rattle.checks.proofs.RowLoops.{next-within, part-is}
+use Rattle.checks.proofs.RowLoops.{none-before, next-before, next-within, part-is}
 use Rattle.columns.specs.Bytes.{stamped}
+use Rattle.report.specs.declared.printed.PrintedStoreys.{PrintedStoreys}
+use Rattle.report.specs.Printing.{front}
 use Rattle.report.specs.Sheet.{storeyLines, storeysLines}
 use Rattle.columns.proofs.Stamps.{stamped-none, stamped-both}
 use Rattle.report.proofs.Rows.{length-storey-lines}
@@ -55,24 +59,64 @@ module _ (h : Header) (ss : List Storey) (ms : List Member) (none : recordsFault
     pub part-ends : a + n ≤ length ms
     part-ends = next-within ss ms i a n before count counted
 
-  pub all-printed : (p a i : ℕ) → i ≤ length ss → length ss ≤ i → a ≡ membersBefore ss i → p ≡ 86 * a + 74 * i → p ≡ 86 * length ms + 74 * length ss
-  all-printed p a i l m e f =
-      let q : i ≡ length ss = omega arith in
-      let g : a ≡ length ms = e ∙ rw q (before-end h ss ms none) in
-      omega (arith, q, g, f)
+-- ---- the storeys, one by one: what holds before each, of the bytes and of the verdict at once
+module _ (k : ℕ) (ss : List Storey) (ms : List Member) (before : List ℕ) where
+  pub record Passed (out : List ℕ) (p : PrintedStoreys) (a i : ℕ) : Type 0 where
+    pub within : i ≤ length ss
+    pub start : a ≡ membersBefore ss i
+    pub place : p .at ≡ 86 * a + 74 * i
+    pub size : length out ≡ length before
+    pub risky : p .risky ≡ anyBelow (riskyAt publishedRules k ss ms) i
+    pub lines : stamped out (p .at) (storeysLines k ss ms i (length ss - i)) ≡ stamped before 0 (storeysLines k ss ms 0 (length ss))
 
--- ---- the storeys, one by one
-module _ (k : ℕ) (ss : List Storey) (ms : List Member) where
-  pub storeys-next : (out before turned : List ℕ) (p next i : ℕ) → stamped out p (storeysLines k ss ms i (length ss - i)) ≡ before → i < length ss → turned ≡ stamped out p (storeyLines k (storeyIn ss i) (membersOf ss ms i)) → next ≡ p + (86 * length (membersOf ss ms i) + 74) → stamped turned next (storeysLines k ss ms (i + 1) (length ss - (i + 1))) ≡ before
-  unfolding storeysLines
-  storeys-next out before turned p next i e l q n =
-      let b = storeyLines k (storeyIn ss i) (membersOf ss ms i) in
-      let c : length ss - i ≡ suc (length ss - (i + 1)) = omega arith in
-      rw (q, stamped-both b (storeysLines k ss ms (i + 1) (length ss - (i + 1))) out p next (omega (arith, n, length-storey-lines k (storeyIn ss i) (membersOf ss ms i))), add-one i)
-      (rw (c, add-one i) at e)
+  same-zero : (n : ℕ) → n - 0 ≡ n
+  same-zero n = omega arith
 
-  pub storeys-end : (out before : List ℕ) (p i : ℕ) → stamped out p (storeysLines k ss ms i (length ss - i)) ≡ before → length ss ≤ i → out ≡ before
-  unfolding storeysLines
-  storeys-end out before p i e l =
-      let c : length ss - i ≡ 0 = omega arith in
-      sym (stamped-none out p) ∙ (rw c at e)
+  pub passed-none : (p : PrintedStoreys) → p ≡ front → Passed before p 0 0
+  unfolding anyBelow
+  passed-none p e = rw e (record { within = omega arith; start = none-before ss; place = refl; size = refl; risky = refl; lines = rw (same-zero (length ss)) })
+
+  risky-more : (i : ℕ) → (anyBelow (riskyAt publishedRules k ss ms) i || storeyRisky publishedRules k (storeyIn ss i .shear) (membersOf ss ms i)) ≡ anyBelow (riskyAt publishedRules k ss ms) (i + 1)
+  unfolding anyBelow riskyAt
+  risky-more i = rw (add-one i)
+
+  module _ (out : List ℕ) (p : PrintedStoreys) (a i : ℕ) (u : Passed out p a i) where
+    next-lines : (turned : List ℕ) (next : ℕ) → i < length ss → next ≡ p .at + (86 * length (membersOf ss ms i) + 74) → turned ≡ stamped out (p .at) (storeyLines k (storeyIn ss i) (membersOf ss ms i)) → stamped turned next (storeysLines k ss ms (i + 1) (length ss - (i + 1))) ≡ stamped before 0 (storeysLines k ss ms 0 (length ss))
+    unfolding storeysLines
+    next-lines turned next l e b =
+        let text = storeyLines k (storeyIn ss i) (membersOf ss ms i) in
+        let c : length ss - i ≡ suc (length ss - (i + 1)) = omega arith in
+        rw (b, stamped-both text (storeysLines k ss ms (i + 1) (length ss - (i + 1))) out (p .at) next (omega (arith, e, length-storey-lines k (storeyIn ss i) (membersOf ss ms i))), add-one i)
+        (rw (c, add-one i) at (u .lines))
+
+    -- the rows from `a` on, as many as the storey counts
+    module _ (n : ℕ) (part : List Member) (l : i < length ss) (count : n ≡ storeyIn ss i .count) (same : part ≡ membersOf ss ms i) (full : length part ≡ n) where
+      pub passed-next : (turned : List ℕ) (z : PrintedStoreys) → z .at ≡ p .at + (86 * length part + 74) → z .risky ≡ (p .risky || storeyRisky publishedRules k (storeyIn ss i .shear) part) → turned ≡ stamped out (p .at) (storeyLines k (storeyIn ss i) part) → length turned ≡ length out → Passed turned z (a + n) (i + 1)
+      passed-next turned z e r b s =
+          record {
+            within = omega arith;
+            start = next-before ss ms i a n (u .start) count;
+            place = omega (arith, e, full, u .place);
+            size = s ∙ u .size;
+            risky = r ∙ rw (same, u .risky) (risky-more i);
+            lines = next-lines turned (z .at) l (rw same at e) (rw same at b);
+          }
+
+    module _ (l : length ss ≤ i) where
+      all-passed : i ≡ length ss
+      all-passed = omega (arith, u .within)
+
+      pub end-place : (h : Header) → recordsFault h ss ms ≡ 0 → p .at ≡ 86 * length ms + 74 * length ss
+      end-place h none =
+          let g : a ≡ length ms = u .start ∙ rw all-passed (before-end h ss ms none) in
+          omega (arith, all-passed, g, u .place)
+
+      pub end-risky : (h : Header) → k ≡ h .knowledge → p .risky ≡ someRisky publishedRules h ss ms
+      unfolding someRisky
+      end-risky h e = u .risky ∙ rw (all-passed, e)
+
+      pub end-lines : (h : Header) → k ≡ h .knowledge → out ≡ stamped before 0 (storeysLines (h .knowledge) ss ms 0 (length ss))
+      unfolding storeysLines
+      end-lines h e =
+          let c : length ss - i ≡ 0 = omega arith in
+          sym (stamped-none out (p .at)) ∙ (rw c at (u .lines)) ∙ ap (λ (level : ℕ). stamped before 0 (storeysLines level ss ms 0 (length ss))) e

@@ -1,11 +1,15 @@
-// One record's line, by value: what the loops over rows print of each.
+// One record's line, by value: what the loops over rows print of each, and what they carry on.
+ghost use mathlib.Core.Bool.{_||_};
 ghost use mathlib.Core.Path.{_≡_};
 ghost use Prim.Native.Nat.{_+_, _≤_};
 ghost use lib.ListN.{length};
 ghost use Rattle.members.specs.Finding.{finding};
+ghost use Rattle.storeys.specs.Building.{tilted};
+ghost use Rattle.storeys.specs.Totals.{foundBy};
+ghost use Rattle.storeys.specs.Tally.{added, AddsUp};
 ghost use Rattle.columns.specs.Bytes.{stamped};
-ghost use Rattle.report.specs.Sheet.{memberLine, storeyLine};
-ghost use Rattle.report.specs.Printing.{lineOf, findingIn, faultBy, Few, Printed};
+ghost use Rattle.report.specs.Sheet.{memberLine, storeyLine, buildingLine};
+ghost use Rattle.report.specs.Printing.{front, begunAt, faultBy, Few};
 use crate::ReportAnswer;
 use crate::ReportJudgment;
 use columns::line::put_line;
@@ -13,13 +17,46 @@ use members::finding::Finding;
 use members::finding::MemberAnswer;
 use members::finding::flag;
 use members::finding::judge_member;
+use records::Header;
 use records::Member;
 use records::Storey;
-use storeys::BuildingAnswer;
-use storeys::BuildingJudgment;
-use storeys::StoreyAnswer;
 use storeys::StoreyFinding;
-use storeys::StoreyJudgment;
+use storeys::row::Tally;
+use storeys::row::add_finding;
+use storeys::row::finding_of;
+use storeys::row::no_tally;
+use storeys::verdict::building_risky;
+use storeys::verdict::is_tilted;
+
+// After some storeys: the next place in the bytes, and whether one of them is Risky.
+pub(crate) struct PrintedStoreys {
+    pub at: usize,
+    pub risky: bool,
+}
+
+// After some members of a storey: the next place in the bytes, and their totals.
+pub(crate) struct PrintedMembers {
+    pub at: usize,
+    pub tally: Tally,
+}
+
+// Before the first storey.
+pub(crate) fn no_storey() -> PrintedStoreys
+    ensures { λ r. ⌜ r ≡ front ⌝ }
+{
+    PrintedStoreys {
+        at: 0,
+        risky: false,
+    }
+}
+
+// Before the first member of a storey.
+pub(crate) fn no_member(p: PrintedStoreys) -> PrintedMembers
+    ensures { λ r. ⌜ r ≡ begunAt (p .at) ⌝ }
+{
+    let tally = no_tally();
+    PrintedMembers { at: p.at, tally }
+}
 
 fn put_finding(out: &mut [u8], at: usize, number: u64, f: Finding) -> usize
     requires { ⌜ at + 86 ≤ length (now out) ⌝ }
@@ -39,40 +76,28 @@ fn put_finding(out: &mut [u8], at: usize, number: u64, f: Finding) -> usize
     put_line(out, at, b"M", &values)
 }
 
-// The line of a good member, judged with k and the 0.40 condition of its storey.
-pub(crate) fn put_member(out: &mut [u8], at: usize, k: u64, met: bool, m: Member) -> usize
-    requires { ⌜ Printed k m × (at + 86 ≤ length (now out)) ⌝ }
-    ensures { λ r. ⌜ r ≡ at + 86 ⌝ }
-    ensures { λ _. ⌜ now (out .exit) ≡ stamped (now (out .entry)) at (memberLine (m .number) (finding k met m)) ⌝ }
+// A good member, judged once with k and the 0.40 condition of its storey: its line, and its part of the totals.
+pub(crate) fn put_member(
+    out: &mut [u8],
+    r: PrintedMembers,
+    k: u64,
+    met: bool,
+    m: Member,
+) -> PrintedMembers
+    requires { ⌜ AddsUp (r .tally) k m × (r .at + 86 ≤ length (now out)) ⌝ }
+    ensures { λ z. ⌜ z .at ≡ r .at + 86 ⌝ }
+    ensures { λ z. ⌜ z .tally ≡ added (r .tally) k met m ⌝ }
+    ensures { λ _. ⌜ now (out .exit) ≡ stamped (now (out .entry)) (r .at) (memberLine (m .number) (finding k met m)) ⌝ }
 {
     match judge_member(k, met, m) {
-        MemberAnswer::Judged(f) => put_finding(out, at, m.number, f),
-        MemberAnswer::Refused(_) => at,
+        MemberAnswer::Judged(f) => {
+            let t = r.tally;
+            let tally = add_finding(t, f, m);
+            let at = put_finding(out, r.at, m.number, f);
+            PrintedMembers { at, tally }
+        }
+        MemberAnswer::Refused(_) => r,
     }
-}
-
-pub(crate) fn finding_in(r: StoreyJudgment) -> StoreyFinding
-    ensures { λ z. ⌜ z ≡ findingIn (r .answer) ⌝ }
-{
-    let answer = r.answer;
-    match answer {
-        StoreyAnswer::Judged(f) => f,
-        StoreyAnswer::Refused(_) => StoreyFinding {
-            axial_total: 0,
-            members: 0,
-            over_shear: 0,
-            shear: 0,
-            risky: false,
-            walls_suffice: false,
-        },
-    }
-}
-
-// The 0.40 condition of a storey.
-pub(crate) fn walls_of(f: StoreyFinding) -> bool
-    ensures { λ r. ⌜ r ≡ f .«walls_suffice» ⌝ }
-{
-    f.walls_suffice
 }
 
 pub(crate) fn put_storey(out: &mut [u8], at: usize, s: Storey, f: StoreyFinding) -> usize
@@ -91,36 +116,61 @@ pub(crate) fn put_storey(out: &mut [u8], at: usize, s: Storey, f: StoreyFinding)
     put_line(out, at, b"S", &values)
 }
 
-// The last line, where the building is judged.
-pub(crate) fn put_building(out: &mut [u8], at: usize, r: BuildingJudgment)
-    requires { ⌜ at + 26 ≤ length (now out) ⌝ }
-    ensures { λ _. ⌜ now (out .exit) ≡ stamped (now (out .entry)) at (lineOf (r .answer)) ⌝ }
+// The storey's line from the totals of its members, after the storeys before it.
+pub(crate) fn put_totals(
+    out: &mut [u8],
+    p: PrintedStoreys,
+    r: PrintedMembers,
+    s: Storey,
+    met: bool,
+) -> PrintedStoreys
+    requires { ⌜ r .at + 74 ≤ length (now out) ⌝ }
+    ensures { λ z. ⌜ z .at ≡ r .at + 74 ⌝ }
+    ensures { λ z. ⌜ z .risky ≡ (p .risky || foundBy s met (r .tally) .risky) ⌝ }
+    ensures { λ _. ⌜ now (out .exit) ≡ stamped (now (out .entry)) (r .at) (storeyLine (s .number) (foundBy s met (r .tally))) ⌝ }
 {
-    let answer = r.answer;
-    match answer {
-        BuildingAnswer::Judged(f) => {
-            let values = [flag(f.tilted), flag(f.risky)];
-            put_line(out, at, b"B", &values);
-        }
-        BuildingAnswer::Refused(_) => {}
+    let t = r.tally;
+    let f = finding_of(s, met, t);
+    let at = put_storey(out, r.at, s, f);
+    PrintedStoreys {
+        at,
+        risky: either(p.risky, f.risky),
     }
 }
 
-// The refusal of the call on a building, then 9: the sheet is longer than the buffer.
-pub(crate) fn report_fault(r: BuildingJudgment, storeys: usize, members: usize, room: usize) -> u64
-    requires { ⌜ Few (r .answer) storeys members ⌝ }
-    ensures { λ z. ⌜ z ≡ faultBy (r .answer) storeys members room ⌝ }
+fn either(a: bool, b: bool) -> bool
+    ensures { λ r. ⌜ r ≡ (a || b) ⌝ }
 {
-    let answer = r.answer;
-    match answer {
-        BuildingAnswer::Judged(_) => {
-            if 86 * members + 74 * storeys + 26 <= room {
-                return 0;
-            }
-            9
-        }
-        BuildingAnswer::Refused(n) => n,
+    if a {
+        return true;
     }
+    b
+}
+
+// The last line, after all storeys.
+pub(crate) fn put_building(out: &mut [u8], h: Header, p: PrintedStoreys) -> usize
+    requires { ⌜ p .at + 26 ≤ length (now out) ⌝ }
+    ensures { λ r. ⌜ r ≡ p .at + 26 ⌝ }
+    ensures { λ _. ⌜ now (out .exit) ≡ stamped (now (out .entry)) (p .at) (buildingLine (tilted h) (p .risky || tilted h)) ⌝ }
+{
+    let tilt = is_tilted(h);
+    let risky = building_risky(p.risky, tilt);
+    let values = [flag(tilt), flag(risky)];
+    put_line(out, p.at, b"B", &values)
+}
+
+// The refusal of the records, then 9: the sheet is longer than the buffer.
+pub(crate) fn report_fault(first: u64, storeys: usize, members: usize, room: usize) -> u64
+    requires { ⌜ Few first storeys members ⌝ }
+    ensures { λ z. ⌜ z ≡ faultBy first storeys members room ⌝ }
+{
+    if first != 0 {
+        return first;
+    }
+    if 86 * members + 74 * storeys + 26 <= room {
+        return 0;
+    }
+    9
 }
 
 pub(crate) fn refused_report(number: u64) -> ReportJudgment

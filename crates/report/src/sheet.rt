@@ -1,64 +1,83 @@
 // The report call, over lent rows of storeys and members. Whole records are moved here; whatever looks into one is in `printed`.
+ghost use mathlib.Core.Bool.{true, _||_};
 ghost use mathlib.Core.Path.{_≡_};
-ghost use mathlib.Core.Bool.{true};
 ghost use Prim.Native.Nat.{_+_, _*_, _≤_};
 ghost use lib.ListN.{length};
 ghost use Rattle.members.specs.Finding.{knowledge};
-ghost use Rattle.storeys.specs.Storey.{storeyCallFault};
-ghost use Rattle.checks.specs.Rows.{memberRowsFault, recordsFault};
+ghost use Rattle.storeys.specs.Storey.{publishedRules, storeyRisky, storeyCallFault};
+ghost use Rattle.storeys.specs.Building.{someRisky};
+ghost use Rattle.storeys.specs.Tally.{tallyOf, Rows};
+ghost use Rattle.checks.specs.Rows.{recordsFault};
 ghost use Rattle.columns.specs.Bytes.{stamped};
 ghost use Rattle.report.specs.Sheet.{memberLines, storeyLines, storeysLines, returnedReport, reportReturned, bufferAfter};
 use crate::ReportJudgment;
-use crate::printed::finding_in;
+use crate::printed::PrintedMembers;
+use crate::printed::PrintedStoreys;
+use crate::printed::no_member;
+use crate::printed::no_storey;
 use crate::printed::put_building;
 use crate::printed::put_member;
-use crate::printed::put_storey;
+use crate::printed::put_totals;
 use crate::printed::refused_report;
 use crate::printed::report_fault;
-use crate::printed::walls_of;
 use crate::printed::written_report;
+use checks::records_fault;
 use records::Header;
 use records::Member;
 use records::Storey;
 use records::numbers::count_of;
-use storeys::building::judge_building;
-use storeys::storey::judge_storey;
+use storeys::storey::walls_suffice;
 use storeys::verdict::level_of;
 
-// The lines of some good members, judged with k and the 0.40 condition of their storey.
-fn put_members(out: &mut [u8], at: usize, k: u64, met: bool, rows: &[Member]) -> usize
-    requires { ⌜ (knowledge k ≡ true) × (memberRowsFault (now rows) ≡ 0) × (at + 86 * length (now rows) ≤ length (now out)) ⌝ }
-    ensures { λ r. ⌜ r ≡ at + 86 * length (now (rows .entry)) ⌝ }
-    ensures { λ _. ⌜ now (out .exit) ≡ stamped (now (out .entry)) at (memberLines k met (now (rows .entry))) ⌝ }
+// The good members of a storey, each judged once with k and the storey's 0.40 condition: their lines and their totals.
+fn put_members(
+    out: &mut [u8],
+    p: PrintedStoreys,
+    k: u64,
+    met: bool,
+    rows: &[Member],
+) -> PrintedMembers
+    requires { ⌜ (knowledge k ≡ true) × Rows (now rows) × (p .at + 86 * length (now rows) ≤ length (now out)) ⌝ }
+    ensures { λ r. ⌜ r .at ≡ p .at + 86 * length (now (rows .entry)) ⌝ }
+    ensures { λ r. ⌜ r .tally ≡ tallyOf k met (now (rows .entry)) ⌝ }
+    ensures { λ _. ⌜ now (out .exit) ≡ stamped (now (out .entry)) (p .at) (memberLines k met (now (rows .entry))) ⌝ }
 {
-    let mut p = at;
+    let mut r = no_member(p);
     let mut j = 0;
     while j < rows.len() {
-        p = put_member(out, p, k, met, rows[j]);
+        r = put_member(out, r, k, met, rows[j]);
         j = j + 1;
     }
-    p
+    r
 }
 
-// The lines of a good storey: its members', then its own.
-fn put_storey_lines(out: &mut [u8], at: usize, k: u64, s: Storey, rows: &[Member]) -> usize
-    requires { ⌜ (storeyCallFault k s (now rows) ≡ 0) × (at + (86 * length (now rows) + 74) ≤ length (now out)) ⌝ }
-    ensures { λ r. ⌜ r ≡ at + (86 * length (now (rows .entry)) + 74) ⌝ }
-    ensures { λ _. ⌜ now (out .exit) ≡ stamped (now (out .entry)) at (storeyLines k s (now (rows .entry))) ⌝ }
+// The lines of a good storey after others: its members', then its own.
+fn put_storey_lines(
+    out: &mut [u8],
+    p: PrintedStoreys,
+    k: u64,
+    s: Storey,
+    rows: &[Member],
+) -> PrintedStoreys
+    requires { ⌜ (storeyCallFault k s (now rows) ≡ 0) × (p .at + (86 * length (now rows) + 74) ≤ length (now out)) ⌝ }
+    ensures { λ r. ⌜ r .at ≡ p .at + (86 * length (now (rows .entry)) + 74) ⌝ }
+    ensures { λ r. ⌜ r .risky ≡ (p .risky || storeyRisky publishedRules k (s .shear) (now (rows .entry))) ⌝ }
+    ensures { λ _. ⌜ now (out .exit) ≡ stamped (now (out .entry)) (p .at) (storeyLines k s (now (rows .entry))) ⌝ }
 {
-    let f = finding_in(judge_storey(k, s, rows));
-    let p = put_members(out, at, k, walls_of(f), rows);
-    put_storey(out, p, s, f)
+    let met = walls_suffice(s, rows);
+    let r = put_members(out, p, k, met, rows);
+    put_totals(out, p, r, s, met)
 }
 
 // The lines of the storeys of an accepted survey, from the front.
-fn put_storeys(out: &mut [u8], h: Header, storeys: &[Storey], members: &[Member]) -> usize
+fn put_storeys(out: &mut [u8], h: Header, storeys: &[Storey], members: &[Member]) -> PrintedStoreys
     requires { ⌜ (recordsFault h (now storeys) (now members) ≡ 0) × (86 * length (now members) + 74 * length (now storeys) ≤ length (now out)) ⌝ }
-    ensures { λ r. ⌜ r ≡ 86 * length (now (members .entry)) + 74 * length (now (storeys .entry)) ⌝ }
+    ensures { λ r. ⌜ r .at ≡ 86 * length (now (members .entry)) + 74 * length (now (storeys .entry)) ⌝ }
+    ensures { λ r. ⌜ r .risky ≡ someRisky publishedRules h (now (storeys .entry)) (now (members .entry)) ⌝ }
     ensures { λ _. ⌜ now (out .exit) ≡ stamped (now (out .entry)) 0 (storeysLines (h .knowledge) (now (storeys .entry)) (now (members .entry)) 0 (length (now (storeys .entry)))) ⌝ }
 {
     let k = level_of(h);
-    let mut p = 0;
+    let mut p = no_storey();
     let mut a = 0;
     let mut i = 0;
     while i < storeys.len() {
@@ -81,12 +100,11 @@ pub fn write_report(
     ensures { λ r. ⌜ returnedReport (r .answer) ≡ reportReturned h (now (storeys .entry)) (now (members .entry)) (length (now (out .entry))) ⌝ }
     ensures { λ _. ⌜ now (out .exit) ≡ bufferAfter h (now (storeys .entry)) (now (members .entry)) (now (out .entry)) ⌝ }
 {
-    let r = judge_building(h, storeys, members);
-    let fault = report_fault(r, storeys.len(), members.len(), out.len());
+    let first = records_fault(h, storeys, members);
+    let fault = report_fault(first, storeys.len(), members.len(), out.len());
     if fault != 0 {
         return refused_report(fault);
     }
     let p = put_storeys(out, h, storeys, members);
-    put_building(out, p, r);
-    written_report(p + 26)
+    written_report(put_building(out, h, p))
 }

@@ -1,12 +1,12 @@
 -- The call on a storey: its finding from the totals, and the order of its refusals.
-use Prim.Native.Nat.{ℕ, suc, _*_, _-_, _≤_, _<_}
+use Prim.Native.Nat.{ℕ, suc, _+_, _*_, _-_, _≤_, _<_}
 use native.Mathlib.Omega.{arith}
 use mathlib.Core.Bool.{Bool, true, false}
 use mathlib.Core.List.{List, [], _∷_}
 use mathlib.Core.Path.{_≡_, refl, ap, sym, _∙_}
 use lib.Dec.{leb, eqb}
 use lib.ListN.{length, getD}
-use borrow.Author.Tests.{ne-eqb, eqb-true, leb-true, eq-eqb}
+use borrow.Author.Tests.{ne-eqb, eqb-true, leb-true, le-leb, le-ltb, eq-eqb}
 use Rattle.records.specs.Notation.{pick, everyBelow, inOrder, total}
 use Rattle.records.specs.Records.{storeyFault, storeyValues, inRange}
 use Rattle.records.specs.declared.Storey.{Storey}
@@ -15,18 +15,17 @@ use Rattle.records.specs.declared.Tag.the-variants.{S}
 use Rattle.records.proofs.Below.{and-right, every-at}
 use Rattle.records.proofs.Firsts.{in-order-last, pick-zero, pick-other, pick-clear, pick-both}
 use Rattle.records.proofs.Validity.{count-most, clear}
-use Rattle.members.specs.Units.{ratioCap}
-use Rattle.members.specs.Finding.{axialRatioD, knowledge}
+use Rattle.members.specs.Finding.{knowledge}
 use Rattle.members.specs.Class.{isWall}
 use Rattle.storeys.specs.declared.StoreyFinding.{StoreyFinding}
 use Rattle.storeys.specs.declared.StoreyAnswer.{StoreyAnswer}
 use Rattle.storeys.specs.declared.StoreyAnswer.the-variants.{Judged, Refused}
 use Rattle.storeys.specs.declared.row.Tally.{Tally}
-use Rattle.storeys.specs.Storey.{publishedRules, wallShear, meetsWallShare, axialTotal, over, shearIfOver, overShear, storeyRisky, riskyByDamage, storeyFinding, knowledgeFault, storeyCallFault, storeyAnswerBy, returnedStorey, storeyReturned}
+use Rattle.storeys.specs.Storey.{publishedRules, wallShear, meetsWallShare, over, shearIfOver, overShear, storeyRisky, riskyByDamage, storeyFinding, knowledgeFault, storeyCallFault, storeyAnswerBy, returnedStorey, storeyReturned}
 use Rattle.checks.specs.Rows.{countFault, memberIn, memberRowsFault}
 use Rattle.records.specs.Blank.{noMember}
-use Rattle.storeys.specs.Tally.{tallyOf, Rows, Small, foundBy, headFault}
-use Rattle.storeys.proofs.Rows.{nd-most}
+use Rattle.storeys.specs.Totals.{membersMost, shearMost, totalMost, riskyIn, foundBy, wallsFrom, wallsSuffice}
+use Rattle.storeys.specs.Tally.{tallyOf, Rows, headFault}
 use Rattle.storeys.proofs.Loops.{row-valid, pick-most}
 
 -- a good storey's shear
@@ -45,27 +44,40 @@ total-most f d n (x ∷ xs) h =
     let b = total-most f d n xs (λ j l. h (suc j) (omega arith)) in
     omega arith
 
+-- the walls' V of good members, from t on
+walls-from : (t : ℕ) (ms : List Member) → ((j : ℕ) → j < length ms → memberIn ms j .case .shear ≤ shearMost) → t + shearMost * length ms ≤ totalMost → wallsFrom t ms ≡ t + total wallShear ms
+unfolding wallsFrom total
+walls-from t [] h l = omega arith
+walls-from t (m ∷ ms) h l =
+    let a : m .case .shear ≤ shearMost = h 0 (omega arith) in
+    let b : t ≤ totalMost = omega (arith, l) in
+    let c = pick-most (isWall m) (m .case .shear) shearMost a in
+    rw (le-leb t totalMost b, le-leb (m .case .shear) shearMost a)
+    (walls-from (t + wallShear m) ms (λ j i. h (suc j) (omega arith)) (omega (arith, l, c)) ∙ omega arith)
+
 module _ (rows : List Member) (g : Rows rows) where
-  pub walls-most : total wallShear rows ≤ 10_000_000_000
-  walls-most =
-      omega (arith, g .most, total-most wallShear noMember 9_999_999 rows (λ j l. pick-most (isWall (memberIn rows j)) (memberIn rows j .case .shear) 9_999_999 (row-valid rows g j l .shear)))
+  walls-total : wallsFrom 0 rows ≡ total wallShear rows
+  walls-total = omega (arith, walls-from 0 rows (λ j l. row-valid rows g j l .shear) (omega (arith, g .most)))
 
-  pub tally-small : (s : Storey) (k : ℕ) (met : Bool) (t : Tally) → storeyFault s ≡ 0 → t ≡ tallyOf k met rows → Small s (length rows) t
-  unfolding tallyOf axialTotal overShear
-  tally-small s k met t e q =
-      rw q
-      (record {
-        shear = shear-most s e;
-        rows-most = g .most;
-        axial-total = omega (arith, g .most, total-most (λ m. axialRatioD m .0) noMember ratioCap rows (λ j l. nd-most (memberIn rows j)));
-        over-shear =
-            omega (arith, g .most, total-most (shearIfOver publishedRules k met) noMember 9_999_999 rows (λ j l. pick-most (over publishedRules k met (memberIn rows j)) (memberIn rows j .case .shear) 9_999_999 (row-valid rows g j l .shear)));
-      })
+  over-shear-small : (k : ℕ) (met : Bool) → overShear publishedRules k met rows ≤ totalMost
+  unfolding overShear
+  over-shear-small k met =
+      omega (arith, g .most, total-most (shearIfOver publishedRules k met) noMember 9_999_999 rows (λ j l. pick-most (over publishedRules k met (memberIn rows j)) (memberIn rows j .case .shear) 9_999_999 (row-valid rows g j l .shear)))
 
--- the finding by the totals is the storey's
-pub found-is : (k : ℕ) (s : Storey) (rows : List Member) (w : ℕ) (met : Bool) (t : Tally) (f : StoreyFinding) → w ≡ total wallShear rows → met ≡ leb (2 * s .shear) (5 * w) → t ≡ tallyOf k met rows → f ≡ foundBy s (length rows) met t → f ≡ storeyFinding publishedRules k (s .shear) rows
-unfolding storeyFinding storeyRisky meetsWallShare riskyByDamage tallyOf
-found-is k s rows w met t f a b c d = d ∙ rw (c, b, a)
+  module _ (s : Storey) (good : storeyFault s ≡ 0) where
+    pub walls-are : wallsSuffice (s .shear) rows ≡ meetsWallShare (s .shear) rows
+    unfolding wallsSuffice meetsWallShare
+    walls-are = rw (le-leb (s .shear) shearMost (shear-most s good), walls-total)
+
+    -- the finding by the totals is the storey's
+    found-by-totals : (k : ℕ) (met : Bool) → met ≡ meetsWallShare (s .shear) rows → foundBy s met (tallyOf k met rows) ≡ storeyFinding publishedRules k (s .shear) rows
+    unfolding foundBy riskyIn tallyOf storeyFinding storeyRisky riskyByDamage
+    found-by-totals k met e =
+        let m = meetsWallShare (s .shear) rows in
+        rw (e, le-ltb membersMost (length rows) (g .most), le-ltb totalMost (overShear publishedRules k m rows) (over-shear-small k m), le-ltb shearMost (s .shear) (shear-most s good))
+
+    pub found-is : (k : ℕ) (met : Bool) (t : Tally) (f : StoreyFinding) → met ≡ wallsSuffice (s .shear) rows → t ≡ tallyOf k met rows → f ≡ foundBy s met t → f ≡ storeyFinding publishedRules k (s .shear) rows
+    found-is k met t f b c d = d ∙ ap (foundBy s met) c ∙ found-by-totals k met (b ∙ walls-are)
 
 -- ---- the refusals before the finding
 module _ (k : ℕ) (s : Storey) (rows : List Member) (first : ℕ) (h : first ≡ headFault k s (length rows)) where

@@ -2,12 +2,13 @@
 use Prim.Native.Nat.{ℕ, zero, suc, _+_, _*_, _-_, _≤_, _<_}
 use native.Mathlib.Omega.{arith}
 use native.Mathlib.Numerals.{add-one}
-use mathlib.Core.Bool.{Bool, true, false, _||_, or-false, or-assoc}
+use mathlib.Core.Bool.{Bool, true, false, _&&_, _||_, or-false, or-assoc}
 use mathlib.Core.List.{List}
 use mathlib.Core.Path.{_≡_, refl, ap, sym, _∙_}
-use lib.Dec.{eqb}
+use lib.Dec.{leb, eqb}
 use lib.ListN.{length, drop, getD, drop-of-length-le}
 use lib.Seq.{drop-cons}
+use borrow.Author.Tests.{leb-true}
 use Rattle.records.specs.Notation.{pick, total, anyOf}
 use Rattle.records.specs.Records.{memberFault}
 use Rattle.records.specs.Valid.{Valid}
@@ -17,11 +18,12 @@ use Rattle.records.proofs.Validity.{valid}
 use Rattle.members.specs.Units.{ratioCap}
 use Rattle.members.specs.Class.{isWall}
 use Rattle.members.specs.Finding.{axialRatioD, knowledge, flag}
-use Rattle.storeys.specs.Storey.{publishedRules, wallShear, axialTotal, over, shearIfOver, overShear, someOver, damaged}
+use Rattle.storeys.specs.Storey.{publishedRules, axialTotal, over, shearIfOver, overShear, someOver, damaged}
 use Rattle.checks.specs.Rows.{memberIn, rowFault, memberRowsFault}
 use Rattle.records.specs.Blank.{noMember}
 use Rattle.storeys.specs.declared.row.Tally.{Tally}
-use Rattle.storeys.specs.Tally.{weightOf, noTally, added, tallyOf, Rows, AddsUp}
+use Rattle.storeys.specs.Totals.{shearMost, totalMost, weightOf, noTally, addedWall, wallsFrom, metBy, wallsSuffice}
+use Rattle.storeys.specs.Tally.{added, tallyOf, Rows, AddsUp}
 use Rattle.storeys.proofs.Rows.{nd-most}
 
 -- ---- totals
@@ -55,22 +57,36 @@ module _ (rows : List Member) (g : Rows rows) (j : ℕ) (h : j < length rows) wh
   pub row-valid : Valid (memberIn rows j)
   row-valid = valid (memberIn rows j) row-good
 
-  -- ---- the walls' V
-  pub wall-room : (t : ℕ) → t ≤ 9_999_999 * j → (t ≤ 10_000_000_000) × (memberIn rows j .case .shear ≤ 9_999_999)
-  wall-room t l = (omega (arith, g .most), row-valid .shear)
+-- ---- the walls' V
+module _ (rows : List Member) (t j : ℕ) (e : wallsFrom t (drop j rows) ≡ wallsFrom 0 rows) where
+  pub wall-next : (r : ℕ) → j < length rows → r ≡ addedWall t (memberIn rows j) → wallsFrom r (drop (j + 1) rows) ≡ wallsFrom 0 rows
+  unfolding wallsFrom
+  wall-next r h q = rw (q, add-one j) (rw (drop-cons rows j noMember h) at e)
 
-  pub wall-next : (t r : ℕ) → t + total wallShear (drop j rows) ≡ total wallShear rows → t ≤ 9_999_999 * j → r ≡ t + wallShear (memberIn rows j) → (r + total wallShear (drop (j + 1) rows) ≡ total wallShear rows) × (r ≤ 9_999_999 * (j + 1))
-  wall-next t r e l q =
-      (omega (arith, total-drop wallShear noMember rows j h), omega (arith, pick-most (isWall (memberIn rows j)) (memberIn rows j .case .shear) 9_999_999 (row-valid .shear)))
+  pub wall-all : length rows ≤ j → t ≡ wallsFrom 0 rows
+  unfolding wallsFrom
+  wall-all h = rw (drop-of-length-le rows h) at e
 
-pub wall-all : (rows : List Member) (t j : ℕ) → t + total wallShear (drop j rows) ≡ total wallShear rows → length rows ≤ j → t ≡ total wallShear rows
-wall-all rows t j e h = omega (arith, total-end wallShear noMember rows j h)
+pub suffice-is : (rows : List Member) (w t : ℕ) (z : Bool) → t ≡ wallsFrom 0 rows → z ≡ metBy w t → z ≡ wallsSuffice w rows
+unfolding wallsSuffice
+suffice-is rows w t z e q = q ∙ rw e
+
+pub wall-most : (t r : ℕ) (m : Member) → t ≤ totalMost + shearMost → r ≡ addedWall t m → r ≤ totalMost + shearMost
+wall-most t r m l q = rw q (go (leb t totalMost) (leb (m .case .shear) shearMost) (isWall m) refl refl)
+  where
+    go : (a b w : Bool) → leb t totalMost ≡ a → leb (m .case .shear) shearMost ≡ b → pick (a && b) (t + pick w (m .case .shear) 0) t ≤ totalMost + shearMost
+    go true true true e f = omega (arith, leb-true t totalMost e, leb-true (m .case .shear) shearMost f)
+    go true true false e f = omega (arith, leb-true t totalMost e)
+    go true false w e f = l
+    go false b w e f = l
 
 -- ---- all the totals
 abbrev pub weighed : ℕ → List Member → ℕ
 weighed j ms = 20 * damaged 1 (drop j ms) + 28 * damaged 2 (drop j ms) + 35 * damaged 3 (drop j ms) + 140 * damaged 4 (drop j ms)
 
 pub record Going (k : ℕ) (met : Bool) (rows : List Member) (t : Tally) (j : ℕ) : Type 0 where
+  pub within : j ≤ length rows
+  pub count : t .members ≡ j
   pub axial : t .«axial_total» + axialTotal (drop j rows) ≡ axialTotal rows
   pub shears : t .«over_shear» + overShear publishedRules k met (drop j rows) ≡ overShear publishedRules k met rows
   pub anyone : (t .some || someOver publishedRules k met (drop j rows)) ≡ someOver publishedRules k met rows
@@ -79,13 +95,15 @@ pub record Going (k : ℕ) (met : Bool) (rows : List Member) (t : Tally) (j : �
   pub over-most : t .«over_shear» ≤ 9_999_999 * j
   pub damage-most : t .damage ≤ 140 * j
 
-tally-is : (t : Tally) (a b d : ℕ) (c : Bool) → t .«axial_total» ≡ a → t .«over_shear» ≡ b → t .some ≡ c → t .damage ≡ d → t ≡ record { «axial_total» = a; «over_shear» = b; some = c; damage = d }
-tally-is t a b d c e f g h = rw (← e, ← f, ← g, ← h)
+tally-is : (t : Tally) (n a b d : ℕ) (c : Bool) → t .members ≡ n → t .«axial_total» ≡ a → t .«over_shear» ≡ b → t .some ≡ c → t .damage ≡ d → t ≡ record { members = n; «axial_total» = a; «over_shear» = b; some = c; damage = d }
+tally-is t n a b d c m e f g h = rw (← m, ← e, ← f, ← g, ← h)
 
 module _ (k : ℕ) (met : Bool) (rows : List Member) where
   pub going-none : Going k met rows noTally 0
   going-none =
       record {
+        within = omega arith;
+        count = refl;
         axial = omega arith;
         shears = omega arith;
         anyone = refl;
@@ -101,6 +119,7 @@ module _ (k : ℕ) (met : Bool) (rows : List Member) where
         record {
           knowledge-level = l;
           good = row-good rows g j h;
+          fewer = omega (arith, u .count, h, g .most);
           axial-total = omega (arith, u .axial-most, g .most);
           over-shear = omega (arith, u .over-most, g .most);
           damage = omega (arith, u .damage-most, g .most);
@@ -141,6 +160,8 @@ module _ (k : ℕ) (met : Bool) (rows : List Member) where
     going-next r e =
         rw e
         (record {
+          within = omega (arith, h);
+          count = omega (arith, u .count);
           axial = next-axial;
           shears = next-shears;
           anyone = next-anyone;
@@ -153,9 +174,10 @@ module _ (k : ℕ) (met : Bool) (rows : List Member) where
   pub going-all : (t : Tally) (j : ℕ) → Going k met rows t j → length rows ≤ j → t ≡ tallyOf k met rows
   unfolding tallyOf axialTotal overShear someOver damaged
   going-all t j u h =
+      let n : t .members ≡ length rows = omega (arith, u .count, u .within) in
       let a : t .«axial_total» ≡ axialTotal rows = omega (arith, u .axial, total-end (λ m. axialRatioD m .0) noMember rows j h) in
       let b : t .«over_shear» ≡ overShear publishedRules k met rows = omega (arith, u .shears, total-end (shearIfOver publishedRules k met) noMember rows j h) in
       let c : t .some ≡ someOver publishedRules k met rows = sym (or-false (t .some)) ∙ ap (λ (x : Bool). t .some || x) (sym (some-end (over publishedRules k met) rows j h)) ∙ u .anyone in
       let d : t .damage ≡ weighed 0 rows =
       omega (arith, u .damage, total-end (λ m. flag (eqb (m .damage) 1)) noMember rows j h, total-end (λ m. flag (eqb (m .damage) 2)) noMember rows j h, total-end (λ m. flag (eqb (m .damage) 3)) noMember rows j h, total-end (λ m. flag (eqb (m .damage) 4)) noMember rows j h) in
-      tally-is t _ _ _ _ a b c d
+      tally-is t _ _ _ _ _ n a b c d

@@ -5,14 +5,14 @@ use mathlib.Core.List.{[], _∷_}
 use mathlib.Core.Path.{_≡_}
 use lib.ListN.{length}
 use mir.Syntax.{w64}
-use borrow.Fn.Kinds.{rNum}
+use borrow.Fn.Kinds.{rBool}
 use borrow.Kind.Num.{pNum}
 use borrow.Kind.Bool.{pBool}
 use borrow.Kind.ShrSlice.{pShrS}
 use Rattle.records.specs.Records.{storeyFault}
 use Rattle.members.specs.Finding.{knowledge}
-use Rattle.records.specs.Notation.{total}
-use Rattle.storeys.specs.Storey.{publishedRules, wallShear, storeyFinding, returnedStorey, storeyReturned}
+use Rattle.storeys.specs.Storey.{publishedRules, storeyFinding, returnedStorey, storeyReturned}
+use Rattle.storeys.specs.Totals.{wallsSuffice}
 use Rattle.storeys.specs.Tally.{tallyOf, Rows}
 use Rattle.storeys.specs.Building.{Answers as Answered}
 use Rattle.storeys.specs.Verdict.{verdictOf, GoodRows}
@@ -21,10 +21,10 @@ use Rattle.walk.proofs.Slice.{R, taken, made}
 use Rattle.records.proofs.Structs.{header, member, storey}
 use Rattle.storeys.proofs.Structs.{tally as tallied, storeyfinding, storeyjudgment, verdict, buildingjudgment}
 
-abbrev pub wall-total : Plain {n = 1} (pShrS (R member) 0 tt ∷ []) (rNum w64)
-wall-total = record {
-  requires = λ κs a. Rows (a .0 .now) ∷ [];
-  ensures = λ κs a z e. (z ≡ total wallShear (a .0 .now)) ∷ [];
+abbrev pub walls-suffice : Plain {n = 1} (taken storey ∷ pShrS (R member) 0 tt ∷ []) rBool
+walls-suffice = record {
+  requires = λ κs a. [];
+  ensures = λ κs a z e. (z ≡ wallsSuffice (a .0 .shear) (a .1 .0 .now)) ∷ [];
 }
 
 abbrev pub tally : Plain {n = 1} (pShrS (R member) 0 tt ∷ pNum w64 ∷ pBool ∷ []) (made tallied)

@@ -1,16 +1,18 @@
-// One record, by value: what the loops over rows do with each.
+// One record, by value: what the loops over rows do with each. The totals of a storey are offered to whoever judges the members in a loop of their own.
 ghost use mathlib.Core.List.{[], _∷_};
 ghost use mathlib.Core.Path.{_≡_};
 ghost use Prim.Native.Nat.{_+_, _*_, _≤_};
-ghost use lib.Dec.{leb, ltb};
+ghost use lib.Dec.{ltb};
 ghost use Rattle.members.specs.Limits.{row, interp};
 ghost use Rattle.members.specs.Sizes.{SizedShare};
-ghost use Rattle.storeys.specs.Storey.{wallShear, allowedShare, exceedsShare};
-ghost use Rattle.storeys.specs.Tally.{weightOf, noTally, added, addedBy, AddsUp, AddsNumbers, headFault, foundBy, riskyBy, Small};
+ghost use Rattle.storeys.specs.Storey.{allowedShare, exceedsShare};
+ghost use Rattle.storeys.specs.Totals.{totalMost, shearMost, weightOf, noTally, addedBy, takesOne, withFinding, riskyBy, riskyIn, foundBy, addedWall, metBy};
+ghost use Rattle.storeys.specs.Tally.{added, AddsUp, AddsNumbers, headFault};
 use crate::StoreyAnswer;
 use crate::StoreyFinding;
 use crate::StoreyJudgment;
 use members::class::is_wall;
+use members::finding::Finding;
 use members::finding::MemberAnswer;
 use members::finding::judge_member;
 use members::finding::known;
@@ -21,8 +23,22 @@ use records::Storey;
 use records::ranges::member_fault;
 use records::ranges::storey_fault;
 
+// The most members of a storey.
+const MEMBERS_MOST: u64 = 200;
+
+// The most that the field of a shear holds.
+const SHEAR_MOST: u64 = 9_999_999;
+
+// What no total of so many members passes.
+const TOTAL_MOST: u64 = 2_000_000_000;
+
+// The most that an axial ratio is.
+const RATIO_MOST: u64 = 9_999_999;
+
 // The totals over some members of a storey.
-pub(crate) struct Tally {
+pub struct Tally {
+    // c
+    pub members: u64,
     // Σ
     pub axial_total: u64,
     // P
@@ -33,21 +49,28 @@ pub(crate) struct Tally {
     pub damage: u64,
 }
 
-// The walls' V so far, with one member more.
+// The walls' V so far, with one member more. Past its most nothing is added.
 pub(crate) fn add_wall(t: u64, m: Member) -> u64
-    requires { ⌜ (t ≤ 10_000_000_000) × (m .case .shear ≤ 9_999_999) ⌝ }
-    ensures { λ r. ⌜ r ≡ t + wallShear m ⌝ }
+    ensures { λ r. ⌜ r ≡ addedWall t m ⌝ }
 {
+    if TOTAL_MOST < t {
+        return t;
+    }
+    if SHEAR_MOST < m.case.shear {
+        return t;
+    }
     if is_wall(m) {
         return t + m.case.shear;
     }
     t
 }
 
-pub(crate) fn no_tally() -> Tally
+// The totals of no member.
+pub fn no_tally() -> Tally
     ensures { λ r. ⌜ r ≡ noTally ⌝ }
 {
     Tally {
+        members: 0,
         axial_total: 0,
         over_shear: 0,
         some: false,
@@ -56,12 +79,8 @@ pub(crate) fn no_tally() -> Tally
 }
 
 fn weight(kind: u64) -> u64
-    requires { ⌜ kind ≤ 4 ⌝ }
     ensures { λ r. ⌜ (r ≡ weightOf kind) × (r ≤ 140) ⌝ }
 {
-    if kind == 0 {
-        return 0;
-    }
     if kind == 1 {
         return 20;
     }
@@ -71,7 +90,10 @@ fn weight(kind: u64) -> u64
     if kind == 3 {
         return 35;
     }
-    140
+    if kind == 4 {
+        return 140;
+    }
+    0
 }
 
 // The totals with one good member more.
@@ -80,19 +102,52 @@ pub(crate) fn add_row(t: Tally, k: u64, met: bool, m: Member) -> Tally
     ensures { λ r. ⌜ r ≡ added t k met m ⌝ }
 {
     match judge_member(k, met, m) {
-        MemberAnswer::Judged(f) => add_finding(t, f.over, f.nd.0, m),
+        MemberAnswer::Judged(f) => add_finding(t, f, m),
         MemberAnswer::Refused(_) => t,
     }
 }
 
-// The totals with a member's finding: whether it is over, and its n_D.
-fn add_finding(t: Tally, over: bool, nd: u64, m: Member) -> Tally
+// The totals take one member more: there are fewer than 200, and no number is past its most.
+fn takes_one(t: Tally, nd: u64, shear: u64) -> bool
+    ensures { λ r. ⌜ r ≡ takesOne t nd shear ⌝ }
+{
+    if MEMBERS_MOST <= t.members {
+        return false;
+    }
+    if TOTAL_MOST < t.axial_total {
+        return false;
+    }
+    if TOTAL_MOST < t.over_shear {
+        return false;
+    }
+    if TOTAL_MOST < t.damage {
+        return false;
+    }
+    if RATIO_MOST < nd {
+        return false;
+    }
+    shear <= SHEAR_MOST
+}
+
+// The totals with the finding of a member; a 201st changes nothing.
+pub fn add_finding(t: Tally, f: Finding, m: Member) -> Tally
+    ensures { λ r. ⌜ r ≡ withFinding t f m ⌝ }
+{
+    if takes_one(t, f.nd.0, m.case.shear) {
+        return add_numbers(t, f.over, f.nd.0, m);
+    }
+    t
+}
+
+// The totals with a member's numbers: whether it is over, and its n_D.
+fn add_numbers(t: Tally, over: bool, nd: u64, m: Member) -> Tally
     requires { ⌜ AddsNumbers t nd m ⌝ }
     ensures { λ r. ⌜ r ≡ addedBy t over nd m ⌝ }
 {
     let w = weight(m.damage);
     if over {
         return Tally {
+            members: t.members + 1,
             axial_total: t.axial_total + nd,
             over_shear: t.over_shear + m.case.shear,
             some: true,
@@ -100,6 +155,7 @@ fn add_finding(t: Tally, over: bool, nd: u64, m: Member) -> Tally
         };
     }
     Tally {
+        members: t.members + 1,
         axial_total: t.axial_total + nd,
         over_shear: t.over_shear,
         some: t.some,
@@ -120,11 +176,14 @@ pub(crate) fn head_fault(k: u64, s: Storey, rows: usize) -> u64
     storey_fault(s)
 }
 
-// The walls carry at least 0.40 of the storey shear.
+// The walls carry at least 0.40 of the storey shear; never of one past its most.
 pub(crate) fn meets(s: Storey, walls: u64) -> bool
-    requires { ⌜ (s .shear ≤ 9_999_999) × (walls ≤ 10_000_000_000) ⌝ }
-    ensures { λ r. ⌜ r ≡ leb (2 * s .shear) (5 * walls) ⌝ }
+    requires { ⌜ walls ≤ totalMost + shearMost ⌝ }
+    ensures { λ r. ⌜ r ≡ metBy (s .shear) walls ⌝ }
 {
+    if SHEAR_MOST < s.shear {
+        return false;
+    }
     2 * s.shear <= 5 * walls
 }
 
@@ -180,25 +239,40 @@ fn past_second_end(share: Share, axial_total: u64, c: u64) -> bool
 }
 
 // The storey's finding, from its totals.
-pub(crate) fn finding_of(s: Storey, rows: usize, met: bool, t: Tally) -> StoreyFinding
-    requires { ⌜ Small s rows t ⌝ }
-    ensures { λ r. ⌜ r ≡ foundBy s rows met t ⌝ }
+pub fn finding_of(s: Storey, met: bool, t: Tally) -> StoreyFinding
+    ensures { λ r. ⌜ r ≡ foundBy s met t ⌝ }
 {
-    let c = rows as u64;
     StoreyFinding {
         axial_total: t.axial_total,
-        members: c,
+        members: t.members,
         over_shear: t.over_shear,
         shear: s.shear,
-        risky: is_risky(Share::published(), s.shear, c, t),
+        risky: risky_in(s.shear, t),
         walls_suffice: met,
     }
 }
 
-fn is_risky(share: Share, shear: u64, c: u64, t: Tally) -> bool
-    requires { ⌜ SizedShare share × (c ≤ 200) × (t .«over_shear» ≤ 2_000_000_000) × (shear ≤ 9_999_999) ⌝ }
-    ensures { λ r. ⌜ r ≡ riskyBy share shear c t ⌝ }
+// Risky by the published share; so is a storey whose numbers are past their most.
+fn risky_in(shear: u64, t: Tally) -> bool
+    ensures { λ r. ⌜ r ≡ riskyIn shear t ⌝ }
 {
+    if MEMBERS_MOST < t.members {
+        return true;
+    }
+    if TOTAL_MOST < t.over_shear {
+        return true;
+    }
+    if SHEAR_MOST < shear {
+        return true;
+    }
+    is_risky(Share::published(), shear, t)
+}
+
+fn is_risky(share: Share, shear: u64, t: Tally) -> bool
+    requires { ⌜ SizedShare share × (t .members ≤ 200) × (t .«over_shear» ≤ 2_000_000_000) × (shear ≤ 9_999_999) ⌝ }
+    ensures { λ r. ⌜ r ≡ riskyBy share shear t ⌝ }
+{
+    let c = t.members;
     if exceeds_share(share, t.axial_total, c, t.over_shear, shear) {
         return true;
     }

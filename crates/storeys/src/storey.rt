@@ -3,8 +3,8 @@ ghost use mathlib.Core.Path.{_≡_};
 ghost use mathlib.Core.Bool.{true};
 ghost use Rattle.records.specs.Records.{storeyFault};
 ghost use Rattle.members.specs.Finding.{knowledge};
-ghost use Rattle.records.specs.Notation.{total};
-ghost use Rattle.storeys.specs.Storey.{publishedRules, wallShear, storeyFinding, returnedStorey, storeyReturned};
+ghost use Rattle.storeys.specs.Storey.{publishedRules, storeyFinding, returnedStorey, storeyReturned};
+ghost use Rattle.storeys.specs.Totals.{wallsSuffice};
 ghost use Rattle.storeys.specs.Tally.{tallyOf, Rows};
 use crate::StoreyFinding;
 use crate::StoreyJudgment;
@@ -21,10 +21,9 @@ use checks::members_fault;
 use records::Member;
 use records::Storey;
 
-// The walls' V.
-fn wall_total(rows: &[Member]) -> u64
-    requires { ⌜ Rows (now rows) ⌝ }
-    ensures { λ r. ⌜ r ≡ total wallShear (now (rows .entry)) ⌝ }
+// The walls of a storey carry at least 0.40 of its shear.
+pub fn walls_suffice(s: Storey, rows: &[Member]) -> bool
+    ensures { λ r. ⌜ r ≡ wallsSuffice (s .shear) (now (rows .entry)) ⌝ }
 {
     let mut t: u64 = 0;
     let mut j = 0;
@@ -32,7 +31,7 @@ fn wall_total(rows: &[Member]) -> u64
         t = add_wall(t, rows[j]);
         j = j + 1;
     }
-    t
+    meets(s, t)
 }
 
 // The totals of the members, judged with k and the 0.40 condition.
@@ -54,9 +53,9 @@ pub(crate) fn found(k: u64, s: Storey, rows: &[Member]) -> StoreyFinding
     requires { ⌜ Rows (now rows) × (knowledge k ≡ true) × (storeyFault s ≡ 0) ⌝ }
     ensures { λ r. ⌜ r ≡ storeyFinding publishedRules k (s .shear) (now (rows .entry)) ⌝ }
 {
-    let met = meets(s, wall_total(rows));
+    let met = walls_suffice(s, rows);
     let t = tally(rows, k, met);
-    finding_of(s, rows.len(), met, t)
+    finding_of(s, met, t)
 }
 
 // The call on a storey: k is its survey's knowledge level.

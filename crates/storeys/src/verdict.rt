@@ -1,7 +1,6 @@
 // The parts of the call on a building that look into records: the header, and each storey's finding.
 ghost use mathlib.Core.Path.{_≡_};
 ghost use mathlib.Core.Bool.{_||_};
-ghost use lib.Dec.{ltb};
 ghost use Rattle.records.specs.Notation.{pick};
 ghost use Rattle.storeys.specs.Building.{tilted};
 ghost use Rattle.storeys.specs.Verdict.{noVerdict, notedBy, verdictAnswer};
@@ -54,7 +53,7 @@ pub fn level_of(h: Header) -> u64
 }
 
 // The larger tilt is above 25,000.
-fn is_tilted(h: Header) -> bool
+pub fn is_tilted(h: Header) -> bool
     ensures { λ r. ⌜ r ≡ tilted h ⌝ }
 {
     if TILT_ALLOWED < h.tilt1 {
@@ -63,11 +62,11 @@ fn is_tilted(h: Header) -> bool
     TILT_ALLOWED < h.tilt2
 }
 
-// Some storey is Risky, or the building is tilted.
-fn building_risky(place: u64, tilted: bool) -> bool
-    ensures { λ r. ⌜ r ≡ (ltb 0 place || tilted) ⌝ }
+// A building is Risky where some storey is, or where it is tilted.
+pub fn building_risky(some: bool, tilted: bool) -> bool
+    ensures { λ r. ⌜ r ≡ (some || tilted) ⌝ }
 {
-    if 1 <= place {
+    if some {
         return true;
     }
     tilted
@@ -88,7 +87,7 @@ pub(crate) fn judged_building(h: Header, v: Verdict) -> BuildingJudgment
     BuildingJudgment {
         answer: BuildingAnswer::Judged(BuildingFinding {
             tilted: tilted,
-            risky: building_risky(v.place, tilted),
+            risky: building_risky(1 <= v.place, tilted),
             place: v.place,
         }),
     }

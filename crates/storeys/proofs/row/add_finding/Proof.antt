@@ -1,32 +1,20 @@
-use Rattle.storeys.proofs.Rows.{added-over, added-under}
+use mathlib.Core.Path.{sym, _∙_}
+use Rattle.storeys.proofs.Rows.{takes-room, with-taken, with-left}
 use borrow.Author.Needs.{needs}
 use Rattle.storeys.proofs.row.add_finding.Statement.{statement}
 use Rattle.storeys.proofs.row.add_finding.Tie as tie
 
-weight-requires : tie.Need-weight-requires
-weight-requires c κs = search needs
+takes-one-requires : tie.Need-takes-one-requires
+takes-one-requires c κs = search needs
 
-add-t7 : tie.Need-add-t7
-add-t7 c = search needs
-
-add-t8 : tie.Need-add-t8
-add-t8 c = search needs
-
-add-t9 : tie.Need-add-t9
-add-t9 c = search needs
+add-numbers-requires : tie.Need-add-numbers-requires
+add-numbers-requires c κs = let a = c .before .before .args in takes-room (a .t) (a .f .nd .0) (a .m) (sym (c .before .takes-one .ensures) ∙ c .if1 .taken)
 
 returns : tie.Need-returns
-returns c = added-over (c .before .before .before .before .before .before .args .t) (c .before .before .before .before .before .before .args .over) (c .before .before .before .before .before .before .args .nd) (c .before .before .before .before .before .weight .result) (c .before .before .before .before .before .before .args .m) (c .before .before .before .before .if1 .taken) (c .before .before .before .before .before .weight .ensures .0)
-
-add-t10 : tie.Need-add-t10
-add-t10 c = search needs
-
-add-t11 : tie.Need-add-t11
-add-t11 c = search needs
+returns c = let a = c .before .before .before .args in with-taken (a .t) _ (a .f) (a .m) (sym (c .before .before .takes-one .ensures) ∙ c .before .if1 .taken) (c .add-numbers .ensures)
 
 returns-2 : tie.Need-returns-2
-returns-2 c = added-under (c .before .before .before .before .args .t) (c .before .before .before .before .args .over) (c .before .before .before .before .args .nd) (c .before .before .before .weight .result) (c .before .before .before .before .args .m) (c .before .before .if1 .left) (c .before .before .before .weight .ensures .0)
+returns-2 c = let a = c .before .before .args in with-left (a .t) (a .f) (a .m) (sym (c .before .takes-one .ensures) ∙ c .if1 .left)
 
 pub add-finding-spec : {M : Type 1} → statement M
-add-finding-spec =
-    tie.close (tie.spec weight-requires add-t7 add-t8 add-t9 returns add-t10 add-t11 returns-2)
+add-finding-spec = tie.close (tie.spec takes-one-requires add-numbers-requires returns returns-2)

@@ -1,21 +1,27 @@
 use native.Mathlib.Omega.{arith}
 use mathlib.Core.Path.{sym, _∙_}
-use Prim.Native.Nat.{_-_}
+use borrow.Author.Tests.{le-leb, lt-leb}
 use borrow.Author.Needs.{needs}
 use Rattle.storeys.proofs.row.add_wall.Statement.{statement}
 use Rattle.storeys.proofs.row.add_wall.Tie as tie
+
+returns : tie.Need-returns
+returns c = rw (lt-leb _ _ (c .if1 .taken))
+
+returns-2 : tie.Need-returns-2
+returns-2 c = rw (le-leb _ _ (c .before .before .if1 .left), lt-leb _ _ (c .if2 .taken))
 
 is-wall-requires : tie.Need-is-wall-requires
 is-wall-requires c κs = search needs
 
 add-result : tie.Need-add-result
-add-result c = search needs
+add-result c = omega (arith, c .before .before .before .before .before .if1 .left, c .before .before .before .if2 .left)
 
-returns : tie.Need-returns
-returns c = rw (sym (c .before .before .is-wall .ensures) ∙ c .before .if1 .taken)
+returns-3 : tie.Need-returns-3
+returns-3 c = rw (le-leb _ _ (c .before .before .before .before .before .if1 .left), le-leb _ _ (c .before .before .before .if2 .left), sym (c .before .before .is-wall .ensures) ∙ c .before .if3 .taken)
 
-returns-2 : tie.Need-returns-2
-returns-2 c = rw (sym (c .before .is-wall .ensures) ∙ c .if1 .left) (omega arith)
+returns-4 : tie.Need-returns-4
+returns-4 c = rw (le-leb _ _ (c .before .before .before .before .if1 .left), le-leb _ _ (c .before .before .if2 .left), sym (c .before .is-wall .ensures) ∙ c .if3 .left) (omega arith)
 
 pub add-wall-spec : {M : Type 1} → statement M
-add-wall-spec = tie.close (tie.spec is-wall-requires add-result returns returns-2)
+add-wall-spec = tie.close (tie.spec returns returns-2 is-wall-requires add-result returns-3 returns-4)

@@ -11,7 +11,7 @@ exceeds-share-requires c κs = search needs
 returns : tie.Need-returns
 returns c =
     let a = c .before .before .args in
-    risky-first (a .share) (a .shear) (a .c) (a .t) (sym (c .before .exceeds-share .ensures) ∙ c .if1 .taken)
+    risky-first (a .share) (a .shear) (a .t) (sym (c .before .exceeds-share .ensures) ∙ c .if1 .taken)
 
 mul-if2 : tie.Need-mul-if2
 mul-if2 c = search needs
@@ -19,7 +19,7 @@ mul-if2 c = search needs
 returns-2 : tie.Need-returns-2
 returns-2 c =
     let a = c .before .before .before .before .args in
-    risky-second (a .share) (a .shear) (a .c) (a .t) (le-leb _ _ (c .if2 .taken))
+    risky-second (a .share) (a .shear) (a .t) (le-leb _ _ (c .if2 .taken))
 
 past-second-end-requires : tie.Need-past-second-end-requires
 past-second-end-requires c κs = search needs
@@ -27,12 +27,12 @@ past-second-end-requires c κs = search needs
 returns-3 : tie.Need-returns-3
 returns-3 c =
     let a = c .before .before .before .before .before .before .args in
-    risky-last (a .share) (a .shear) (a .c) (a .t) (sym (c .before .before .before .before .before .exceeds-share .ensures) ∙ c .before .before .before .before .if1 .left) (lt-leb _ _ (c .before .before .if2 .left)) (sym (c .before .past-second-end .ensures) ∙ c .if3 .taken)
+    risky-last (a .share) (a .shear) (a .t) (sym (c .before .before .before .before .before .exceeds-share .ensures) ∙ c .before .before .before .before .if1 .left) (lt-leb _ _ (c .before .before .if2 .left)) (sym (c .before .past-second-end .ensures) ∙ c .if3 .taken)
 
 returns-4 : tie.Need-returns-4
 returns-4 c =
     let a = c .before .before .before .before .before .before .args in
-    c .if3 .left ∙ risky-third (a .share) (a .shear) (a .c) (a .t) (sym (c .before .before .before .before .before .exceeds-share .ensures) ∙ c .before .before .before .before .if1 .left) (lt-leb _ _ (c .before .before .if2 .left)) (sym (c .before .past-second-end .ensures) ∙ c .if3 .left)
+    c .if3 .left ∙ risky-third (a .share) (a .shear) (a .t) (sym (c .before .before .before .before .before .exceeds-share .ensures) ∙ c .before .before .before .before .if1 .left) (lt-leb _ _ (c .before .before .if2 .left)) (sym (c .before .past-second-end .ensures) ∙ c .if3 .left)
 
 pub is-risky-spec : {M : Type 1} → statement M
 is-risky-spec =

@@ -1,6 +1,5 @@
 use native.Mathlib.Omega.{arith}
-use mathlib.Core.Path.{_≡_}
-use Prim.Native.Nat.{_-_}
+use borrow.Author.Tests.{ne-eqb}
 use Rattle.storeys.proofs.row.weight.Statement.{statement}
 use Rattle.storeys.proofs.row.weight.Tie as tie
 
@@ -17,7 +16,7 @@ returns-4 : tie.Need-returns-4
 returns-4 c = let e = c .if4 .taken in (rw e, omega arith)
 
 returns-5 : tie.Need-returns-5
-returns-5 c = let e : c .before .before .before .before .args .kind ≡ 4 = omega (arith, c .before .before .before .if1 .left, c .before .before .if2 .left, c .before .if3 .left, c .if4 .left, c .before .before .before .before .pre) in (rw e, omega arith)
+returns-5 c = (rw (ne-eqb _ _ (c .before .before .before .if1 .left), ne-eqb _ _ (c .before .before .if2 .left), ne-eqb _ _ (c .before .if3 .left), ne-eqb _ _ (c .if4 .left)), omega arith)
 
 pub weight-spec : {M : Type 1} → statement M
 weight-spec = tie.close (tie.spec returns returns-2 returns-3 returns-4 returns-5)

@@ -1,7 +1,7 @@
 use borrow.Kind.Bool.{bAt}
 use mathlib.Core.List.{[], _∷_}
 use mathlib.Core.Path.{refl}
-use Rattle.storeys.proofs.Called.{shear-most, walls-most, tally-small, found-is}
+use Rattle.storeys.proofs.Called.{found-is}
 use contract.Lifetimes.{Lfts, Shares}
 use contract.Running.{tablesOf}
 use mir.Syntax.{Ty, tyRef, named, imm}
@@ -9,19 +9,15 @@ use denote.Memory.{pointee}
 use borrow.Fn.Args.{vAt}
 use borrow.Fn.World.{World}
 use borrow.Table.Row.{Cx, sBool}
-use borrow.Table.Rows.{any-gone, sc-here, any-gone}
-use Rattle.walk.proofs.Walk.{S, _⨾_, _▸_, at, from, set, fld, sc, gone, old, forget, ret, u64}
-use Rattle.walk.proofs.Slice.{ty, R, kept, full, here, sh-len, val-at, sh-at, sh-spares, sh-reads}
+use borrow.Table.Rows.{any-gone, sc-here}
+use Rattle.walk.proofs.Walk.{S, _⨾_, _▸_, at, from, sc, gone, old, forget, ret, u64}
+use Rattle.walk.proofs.Slice.{ty, R, kept, full, here, val-at, sh-at, sh-spares, sh-reads}
 use Rattle.walk.proofs.Fn.{Callee, Knows, Body, Answers, entry, callee, knows, call, meets}
 use Rattle.records.proofs.Structs.{member, storey}
 use Rattle.storeys.proofs.Structs.{storeyfinding, tally}
-use Rattle.storeys.proofs.storey.wall_total.Met as wall-total-met
-use Rattle.storeys.proofs.storey.wall_total.Symbol as wall-total-symbol
+use Rattle.storeys.proofs.storey.walls_suffice.Met as walls-suffice-met
+use Rattle.storeys.proofs.storey.walls_suffice.Symbol as walls-suffice-symbol
 use Rattle.storeys.proofs.Says as Says
-use Rattle.storeys.proofs.row.meets.Met as meets-met
-use Rattle.storeys.proofs.row.meets.Symbol as meets-symbol
-use Rattle.storeys.proofs.row.meets.Kinds as meets-kinds
-use Rattle.storeys.proofs.row.meets.Reads as meets-reads
 use Rattle.storeys.proofs.storey.tally.Met as tally-met
 use Rattle.storeys.proofs.storey.tally.Symbol as tally-symbol
 use Rattle.storeys.proofs.row.finding_of.Met as finding-of-met
@@ -32,11 +28,8 @@ use Rattle.storeys.proofs.storey.found.Code
 use Rattle.storeys.proofs.storey.found.Key
 use Rattle.storeys.proofs.storey.found.Statement.{statement}
 
-abbrev the-wall-total : Callee
-the-wall-total = callee Says.wall-total wall-total-symbol.name
-
-abbrev the-meets : Callee
-the-meets = record { n = 0; ps = meets-kinds.ps; r = meets-kinds.r; asked = meets-reads.Asked; learnt = meets-reads.Learnt; name = meets-symbol.name }
+abbrev the-walls-suffice : Callee
+the-walls-suffice = callee Says.walls-suffice walls-suffice-symbol.name
 
 abbrev the-tally : Callee
 the-tally = callee Says.tally tally-symbol.name
@@ -45,7 +38,7 @@ abbrev the-finding-of : Callee
 the-finding-of = record { n = 0; ps = finding-of-kinds.ps; r = finding-of-kinds.r; asked = finding-of-reads.Asked; learnt = finding-of-reads.Learnt; name = finding-of-symbol.name }
 
 abbrev K : S → Type 1
-K s = Knows the-wall-total s × Knows the-meets s × Knows the-tally s × Knows the-finding-of s
+K s = Knows the-walls-suffice s × Knows the-tally s × Knows the-finding-of s
 
 abbrev τ3 : Ty
 τ3 = tyRef (named 0) imm (pointee (R member .written))
@@ -61,31 +54,23 @@ cx2 κs qs = at 0 (kept storeyfinding) (at 2 (any-gone (ty storey)) (start κs q
 
 abbrev body : Body Says.found K 0 Code.function
 body κs qs bs =
-    call the-wall-total (λ s k. k .0) 6 (0 ∷ []) (sh-at 3 τ3 (λ x. x), tt) (λ s. (sh-spares s (R member) τ3 0, sh-reads s (R member) τ3 0, refl, tt)) gone (tt, tt) refl ⨾
-    call the-meets (λ s k. k .1) 4 [] (val-at 2 (λ x. x), (vAt 6 (λ x. x), tt)) (λ s. ((here storey .is s, refl), ((sc u64 .is s, refl), tt))) gone tt refl ⨾
-    forget 6 (old u64) ▸
-    call the-tally (λ s k. k .2) 5 (0 ∷ []) (sh-at 3 τ3 (λ x. x), (vAt 1 (λ x. x), (bAt 4 (λ x. x), tt))) (λ s. (sh-spares s (R member) τ3 0, sh-reads s (R member) τ3 0, refl, ((sc u64 .is s, refl), ((sc sBool .is s, refl), tt)))) gone (tt, tt) refl ⨾
-    from (cx1 κs qs) (set 7 u64 (fld 3 1 (sh-len (R member) 0) refl) gone refl (λ u. refl) (λ u. tt) ⨾
-    call the-finding-of (λ s k. k .3) 0 [] (val-at 2 (λ x. x), (vAt 7 (λ x. x), (bAt 4 (λ x. x), (val-at 5 (λ x. x), tt)))) (λ s. ((here storey .is s, refl), ((sc u64 .is s, refl), ((sc sBool .is s, refl), ((here tally .is s, refl), tt))))) gone tt refl ⨾
+    call the-walls-suffice (λ s k. k .0) 4 (0 ∷ []) (val-at 2 (λ x. x), (sh-at 3 τ3 (λ x. x), tt)) (λ s. ((here storey .is s, refl), (sh-spares s (R member) τ3 0, sh-reads s (R member) τ3 0, refl, tt))) gone (tt, tt) refl ⨾
+    call the-tally (λ s k. k .1) 5 (0 ∷ []) (sh-at 3 τ3 (λ x. x), (vAt 1 (λ x. x), (bAt 4 (λ x. x), tt))) (λ s. (sh-spares s (R member) τ3 0, sh-reads s (R member) τ3 0, refl, ((sc u64 .is s, refl), ((sc sBool .is s, refl), tt)))) gone (tt, tt) refl ⨾
+    from (cx1 κs qs) (call the-finding-of (λ s k. k .2) 0 [] (val-at 2 (λ x. x), (bAt 4 (λ x. x), (val-at 5 (λ x. x), tt))) (λ s. ((here storey .is s, refl), ((sc sBool .is s, refl), ((here tally .is s, refl), tt)))) gone tt refl ⨾
     forget 2 (full storey) ▸
     forget 4 (old sBool) ▸
     forget 5 (full tally) ▸
-    forget 7 (old u64) ▸
     from (cx2 κs qs) (forget 1 (old u64) ▸
     ret tt))
 
 answers : Answers Says.found K 0 Code.function body
 answers κs qs a good pre bs = (
-  λ _. pre .0,
-  λ w. (
-    λ _. (shear-most (a .1 .0) (pre .2), rw (w .5) (walls-most (a .1 .1 .0 .now) (pre .0))),
-    λ m. (
-      λ _. (pre .0, pre .1),
-      λ t. (
-        λ _. tally-small (a .1 .1 .0 .now) (pre .0) (a .1 .0) (a .0) (m .1) (t .1) (pre .2) (t .5),
-        λ f.
-            ((tt, (tt, (refl, tt))), found-is (a .0) (a .1 .0) (a .1 .1 .0 .now) (w .1) (m .1) (t .1) (f .1) (w .5) (m .5) (t .5) (f .5)),
-      ),
+  λ _. tt,
+  λ m. (
+    λ _. (pre .0, pre .1),
+    λ t. (
+      λ _. tt,
+      λ f. ((tt, (tt, (refl, tt))), found-is (a .1 .1 .0 .now) (pre .0) (a .1 .0) (pre .2) (a .0) (m .1) (t .1) (f .1) (m .5) (t .5) (f .5)),
     ),
   ),
 )
@@ -94,8 +79,7 @@ pub found-spec : {M : Type 1} → statement M
 unfolding Code.routine tablesOf
 found-spec {M} 𝓤 H 𝓜 𝓖 𝓡 = let w : World = record { M = M; 𝓤 = 𝓤; H = H; 𝓜 = 𝓜; 𝓖 = 𝓖; 𝓡 = 𝓡 } in
     meets Says.found K 0 Code.function body answers w Code.env Key.name (Code.unfolded 𝓤 H 𝓜 𝓡) (
-      knows Says.wall-total w Code.env wall-total-symbol.name wall-total-symbol.routine Code.calls-storeys·storey·wall-total (wall-total-met.met 𝓤 H 𝓜 𝓖 𝓡),
-      meets-reads.known w Code.env meets-symbol.name meets-symbol.routine Code.calls-storeys·row·meets (meets-met.met 𝓤 H 𝓜 𝓖 𝓡),
+      knows Says.walls-suffice w Code.env walls-suffice-symbol.name walls-suffice-symbol.routine Code.calls-storeys·storey·walls-suffice (walls-suffice-met.met 𝓤 H 𝓜 𝓖 𝓡),
       knows Says.tally w Code.env tally-symbol.name tally-symbol.routine Code.calls-storeys·storey·tally (tally-met.met 𝓤 H 𝓜 𝓖 𝓡),
       finding-of-reads.known w Code.env finding-of-symbol.name finding-of-symbol.routine Code.calls-storeys·row·finding-of (finding-of-met.met 𝓤 H 𝓜 𝓖 𝓡),
     )

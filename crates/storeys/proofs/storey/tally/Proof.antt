@@ -1,5 +1,5 @@
 use borrow.Kind.Bool.{bAt}
-use Prim.Native.Nat.{ℕ, _+_, _-_, _≤_}
+use Prim.Native.Nat.{ℕ, _+_, _-_}
 use native.Mathlib.Omega.{arith}
 use mathlib.Core.List.{[]}
 use mathlib.Core.Path.{refl}
@@ -57,7 +57,7 @@ body κs qs bs =
     call the-no-tally (λ s k. k .0) 4 [] tt (λ s. tt) gone tt refl ⨾
     set 5 u64 (lit w64 0 tt) gone refl (λ u. refl) (λ u. tt) ⨾
     from (cx1 κs qs) (while (λ (vs : Tally × ℕ) u. (u .0, (u .1 .0, (u .1 .1 .0, (u .1 .1 .1 .0, (vs .0, (vs .1, u .1 .1 .1 .1 .1 .1)))))))
-    (λ u vs. (vs .1 ≤ length (u .1 .0 .now)) × Going (u .1 .1 .0) (u .1 .1 .1 .0) (u .1 .0 .now) (vs .0) (vs .1))
+    (λ u vs. Going (u .1 .1 .0) (u .1 .1 .1 .0) (u .1 .0 .now) (vs .0) (vs .1))
     (λ u vs. length (u .1 .0 .now) - vs .1)
     (set 6 u64 (fld 1 1 (sh-len (R member) 0) refl) gone refl (λ u. refl) (λ u. tt) ⨾
     op2 7 sBool (lt unsigned) (cp 5 (sc u64)) (cp 6 (sc u64)) gone refl (λ u. refl) (λ u. tt) ⨾
@@ -82,7 +82,7 @@ answers : Answers Says.tally K 0 Code.function body
 answers κs qs a good pre bs = (
   λ _. tt,
   λ s.
-      ((s .1, 0), refl, (omega arith, rw (s .5) (going-none (a .1 .0) (a .1 .1 .0) (a .0 .now)))) ◂ λ vs inv. (
+      ((s .1, 0), refl, rw (s .5) (going-none (a .1 .0) (a .1 .1 .0) (a .0 .now))) ◂ λ vs inv. (
         tt,
         (
           λ taken. told (ltb-true (vs .1) (length (a .0 .now)) taken) λ l. (
@@ -90,16 +90,16 @@ answers κs qs a good pre bs = (
             (
               tt,
               (
-                (refl, refl, omega arith),
+                (refl, refl, l),
                 λ _. (
-                  λ _. tally-room (a .1 .0) (a .1 .1 .0) (a .0 .now) (pre .0) (vs .0) (vs .1) (inv .1) l (pre .1),
+                  λ _. tally-room (a .1 .0) (a .1 .1 .0) (a .0 .now) (pre .0) (vs .0) (vs .1) inv l (pre .1),
                   λ g.
-                      (search needs, (length (a .0 .now) - (vs .1 + 1), omega arith, ((g .1, vs .1 + 1), refl, (omega arith, going-next (a .1 .0) (a .1 .1 .0) (a .0 .now) (pre .0) (vs .0) (vs .1) (inv .1) l (g .1) (g .5)), refl))),
+                      (search needs, (length (a .0 .now) - (vs .1 + 1), omega arith, ((g .1, vs .1 + 1), refl, going-next (a .1 .0) (a .1 .1 .0) (a .0 .now) (pre .0) (vs .0) (vs .1) inv l (g .1) (g .5), refl))),
                 ),
               ),
             ),
           ),
-          λ left. ((refl, (tt, (tt, tt))), going-all (a .1 .0) (a .1 .1 .0) (a .0 .now) (vs .0) (vs .1) (inv .1) (ltb-false (vs .1) (length (a .0 .now)) left)),
+          λ left. ((refl, (tt, (tt, tt))), going-all (a .1 .0) (a .1 .1 .0) (a .0 .now) (vs .0) (vs .1) inv (ltb-false (vs .1) (length (a .0 .now)) left)),
         ),
       ),
 )

@@ -9,7 +9,7 @@ building-risky-requires : tie.Need-building-risky-requires
 building-risky-requires c κs = search needs
 
 returns : tie.Need-returns
-returns c = rw (c .building-risky .ensures, c .before .is-tilted .ensures)
+returns c = rw (c .building-risky .ensures, c .before .before .is-tilted .ensures)
 
 pub judged-building-spec : {M : Type 1} → statement M
 judged-building-spec = tie.close (tie.spec is-tilted-requires building-risky-requires returns)

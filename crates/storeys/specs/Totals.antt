@@ -1,0 +1,88 @@
+-- A storey's finding from the totals of its members, added up one member after another (document 01, "Storey and building"): for a pass that judges each member
+-- once. Any numbers may be handed in. Numbers past what good records give are not added, so that no sum wraps; of good records the finding is `storeyFinding`.
+use Rattle.records.specs.Notation.{ℕ, _+_, _*_, Bool, false, _&&_, _||_, List, [], _∷_, leb, ltb, eqb, pick}
+use Rattle.records.specs.{declared.Storey.Storey, declared.Member.Member}
+use Rattle.members.specs.{declared.finding.Finding.Finding, declared.tables.Share.Share, Units.ratioCap, Tables.publishedShare, Finding.flag}
+use Rattle.storeys.specs.Storey.{wallShear, exceedsShare}
+use Rattle.storeys.specs.declared.{StoreyFinding.StoreyFinding, row.Tally.Tally}
+
+-- the most members of a storey, the most that the field of a shear holds, and what no total of so many members passes
+abbrev pub membersMost : ℕ
+membersMost = 200
+
+abbrev pub shearMost : ℕ
+shearMost = 9_999_999
+
+abbrev pub totalMost : ℕ
+totalMost = 2_000_000_000
+
+-- "20 × h1 + 28 × h2 + 35 × h3 + 140 × h4": what a member with damage of a kind adds
+abbrev pub weightOf : ℕ → ℕ
+weightOf kind = 20 * flag (eqb kind 1) + 28 * flag (eqb kind 2) + 35 * flag (eqb kind 3) + 140 * flag (eqb kind 4)
+
+-- the totals of no member
+abbrev pub noTally : Tally
+noTally = record { members = 0; «axial_total» = 0; «over_shear» = 0; some = false; damage = 0 }
+
+-- the totals with one member more: whether it is over, and its n_D
+abbrev pub addedBy : Tally → Bool → ℕ → Member → Tally
+addedBy t o nd m =
+    record {
+      members = t .members + 1;
+      «axial_total» = t .«axial_total» + nd;
+      «over_shear» = t .«over_shear» + pick o (m .case .shear) 0;
+      some = t .some || o;
+      damage = t .damage + weightOf (m .damage);
+    }
+
+-- the totals take a member with this n_D and V: they are of fewer than 200, and no number is past its most
+abbrev pub takesOne : Tally → ℕ → ℕ → Bool
+takesOne t nd shear =
+    ltb (t .members) membersMost
+    && (leb (t .«axial_total») totalMost && (leb (t .«over_shear») totalMost && (leb (t .damage) totalMost && (leb nd ratioCap && leb shear shearMost))))
+
+-- the totals with the finding of a member; a 201st changes nothing
+unfoldable pub withFinding : Tally → Finding → Member → Tally
+withFinding t f m = pick (takesOne t (f .nd .0) (m .case .shear)) (addedBy t (f .over) (f .nd .0) m) t
+
+-- "A storey is Risky when P / W exceeds it; or Σ > 65,000 × c and some member is over; or" by its damage
+abbrev pub riskyBy : Share → ℕ → Tally → Bool
+riskyBy share w t =
+    exceedsShare share (t .«axial_total») (t .members) (t .«over_shear») w
+    || ((ltb (share .ends .r2 * t .members) (t .«axial_total») && t .some) || leb (7 * t .members) (t .damage))
+
+-- a number is past its most
+abbrev pub pastMost : ℕ → Tally → Bool
+pastMost w t = ltb membersMost (t .members) || (ltb totalMost (t .«over_shear») || ltb shearMost w)
+
+-- Risky by the published share; and where a number is past its most
+unfoldable pub riskyIn : ℕ → Tally → Bool
+riskyIn w t = pastMost w t || riskyBy publishedShare w t
+
+-- the storey's finding, from the totals of its members
+unfoldable pub foundBy : Storey → Bool → Tally → StoreyFinding
+foundBy s met t =
+    record {
+      «axial_total» = t .«axial_total»;
+      members = t .members;
+      «over_shear» = t .«over_shear»;
+      shear = s .shear;
+      risky = riskyIn (s .shear) t;
+      «walls_suffice» = met;
+    }
+
+-- the walls' V so far, with one member more; past its most nothing is added
+abbrev pub addedWall : ℕ → Member → ℕ
+addedWall t m = pick (leb t totalMost && leb (m .case .shear) shearMost) (t + wallShear m) t
+
+-- the walls' V of some members, from t on
+unfoldable pub wallsFrom : ℕ → List Member → ℕ
+wallsFrom t [] = t
+wallsFrom t (m ∷ ms) = wallsFrom (addedWall t m) ms
+
+-- "walls' V total ≥ 0.40 × storey shear"; never of a shear past its most
+abbrev pub metBy : ℕ → ℕ → Bool
+metBy w walls = leb w shearMost && leb (2 * w) (5 * walls)
+
+unfoldable pub wallsSuffice : ℕ → List Member → Bool
+wallsSuffice w ms = metBy w (wallsFrom 0 ms)
