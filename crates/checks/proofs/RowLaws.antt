@@ -8,7 +8,7 @@ use Rattle.records.specs.declared.Storey.{Storey}
 use Rattle.records.specs.declared.Member.{Member}
 use Rattle.records.specs.Notation.{total, first}
 use Rattle.checks.specs.Rows.{memberIn, rowFault, storeyIn, membersBefore, membersOf, countFault, countsFault, storeyRowsFault, memberRowsFault, recordsFault}
-use Rattle.records.specs.Records.{headerFault, storeyFault, memberFault, repeated}
+use Rattle.records.specs.Records.{headerFault, storeyFault, memberFault, repeated, surveyOf}
 use Rattle.records.specs.declared.Header.{Header}
 use Rattle.records.proofs.Validity.{count-most, ten-storeys}
 use Rattle.checks.proofs.Refusals.{None, one, rest, in-order-clear, first-clear, count-clear}
@@ -47,8 +47,8 @@ unfolding memberRowsFault rowFault
 row-good rows e j l = in-order-clear _ (first-clear (rowFault rows) (length rows) e j l)
 
 -- ---- records without a refusal
-module _ (h : Header) (ss : List Storey) (ms : List Member) (none : recordsFault h ss ms ≡ 0) where
-  checks : None (countsFault h ss ms ∷ headerFault h ∷ first 0 (λ n. n) (storeyRowsFault ss ms) (length ss) ∷ [])
+module _ (h : Header) (ss : List Storey) (ms : List Member) (none : recordsFault (surveyOf h ss ms) ≡ 0) where
+  checks : None (countsFault (surveyOf h ss ms) ∷ headerFault h ∷ first 0 (λ n. n) (storeyRowsFault ss ms) (length ss) ∷ [])
   unfolding recordsFault
   checks = in-order-clear _ none
 

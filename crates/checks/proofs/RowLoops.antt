@@ -8,7 +8,7 @@ use mathlib.Core.Path.{_≡_, refl, ap, sym, _∙_}
 use lib.Dec.{eqb}
 use lib.ListN.{length, drop, take}
 use Rattle.records.specs.Notation.{pick, anyBelow, inOrder, first, total}
-use Rattle.records.specs.Records.{memberFault, storeyFault, repeated, headerFault}
+use Rattle.records.specs.Records.{memberFault, storeyFault, repeated, headerFault, surveyOf}
 use Rattle.records.specs.declared.Member.{Member}
 use Rattle.records.proofs.Below.{any-none, any-more, any-holds}
 use Rattle.records.proofs.Firsts.{first-none, first-next, first-kept, in-order-last, pick-zero, pick-other, nested, in-order-both, last-of}
@@ -173,14 +173,14 @@ module _ (h : Header) (ss : List Storey) (ms : List Member) (fit : Bool) (r : �
   first-is : r ≡ inOrder (countFault (h .count) (length ss) ∷ countFault (counts ss) (length ms) ∷ headerFault h ∷ [])
   first-is = g ∙ rw e
 
-  all-is : recordsFault h ss ms ≡ pick (eqb r 0) (refusal ss ms (length ss)) r
+  all-is : recordsFault (surveyOf h ss ms) ≡ pick (eqb r 0) (refusal ss ms (length ss)) r
   unfolding recordsFault countsFault
   all-is =
       nested (eqb (countFault (h .count) (length ss)) 0) (countFault (h .count) (length ss)) (countFault (counts ss) (length ms)) (headerFault h ∷ refusal ss ms (length ss) ∷ []) refl
       ∙ in-order-both (countFault (h .count) (length ss) ∷ countFault (counts ss) (length ms) ∷ headerFault h ∷ []) (refusal ss ms (length ss) ∷ [])
       ∙ rw (← first-is, last-of (refusal ss ms (length ss)))
 
-  pub refused-first : (r ≡ 0 → ⊥) → r ≡ recordsFault h ss ms
+  pub refused-first : (r ≡ 0 → ⊥) → r ≡ recordsFault (surveyOf h ss ms)
   refused-first ne = sym (all-is ∙ pick-other r (refusal ss ms (length ss)) ne)
 
   pub counted : r ≡ 0 → Counted ss ms
@@ -188,5 +188,5 @@ module _ (h : Header) (ss : List Storey) (ms : List Member) (fit : Bool) (r : �
       let none : None (countFault (h .count) (length ss) ∷ countFault (counts ss) (length ms) ∷ headerFault h ∷ []) = in-order-clear _ (sym first-is ∙ z) in
       count-clear (counts ss) (length ms) (one (rest none))
 
-  pub refused-later : r ≡ 0 → (f : ℕ) → f ≡ refusal ss ms (length ss) → f ≡ recordsFault h ss ms
+  pub refused-later : r ≡ 0 → (f : ℕ) → f ≡ refusal ss ms (length ss) → f ≡ recordsFault (surveyOf h ss ms)
   refused-later z f q = q ∙ sym (all-is ∙ pick-zero r (refusal ss ms (length ss)) z)

@@ -9,6 +9,7 @@ use mir.Syntax.{w64}
 use borrow.Fn.Kinds.{rNum, rBool}
 use borrow.Kind.Num.{pNum}
 use borrow.Kind.ShrSlice.{pShrS}
+use Rattle.records.specs.Records.{surveyOf}
 use Rattle.records.specs.Notation.{pick, anyBelow, first, total}
 use Rattle.checks.specs.Rows.{memberIn, memberRowsFault, storeyIn, storeyRowsFault, recordsFault}
 use Rattle.checks.specs.RowChecks.{Counted}
@@ -49,5 +50,5 @@ rows-fault = record {
 abbrev pub records-fault : Plain {n = 2} (taken header ∷ pShrS (R storey) 0 tt ∷ pShrS (R member) 1 tt ∷ []) (rNum w64)
 records-fault = record {
   requires = λ κs a. [];
-  ensures = λ κs a z e. (z ≡ recordsFault (a .0) (a .1 .0 .now) (a .1 .1 .0 .now)) ∷ [];
+  ensures = λ κs a z e. (z ≡ recordsFault (surveyOf (a .0) (a .1 .0 .now) (a .1 .1 .0 .now))) ∷ [];
 }

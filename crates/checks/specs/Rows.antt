@@ -1,6 +1,6 @@
 -- The records of a survey over rows of any length (document 01, "Refusals as returned": "Calls on records check 1 over all, then records in survey order: 3, 4, 5, 7").
 use Rattle.records.specs.Notation.{ℕ, zero, suc, _+_, List, [], _∷_, eqb, length, getD, take, drop, pick, inOrder, first, total}
-pub use Rattle.records.specs.declared.{Header.Header, Storey.Storey, Member.Member}
+pub use Rattle.records.specs.{declared.Header.Header, declared.Storey.Storey, declared.Member.Member, Records.Survey}
 use Rattle.records.specs.{Blank.noStorey, Blank.noMember, Records.headerFault, Records.storeyFault, Records.memberFault, Records.repeated}
 
 -- row j of some members, counted from 0
@@ -33,13 +33,15 @@ abbrev pub countFault : ℕ → ℕ → ℕ
 countFault count rows = pick (eqb count rows) 0 1
 
 -- 1: "a count or total of counts that isn't the rows given"
-unfoldable pub countsFault : Header → List Storey → List Member → ℕ
-countsFault h ss ms = inOrder (countFault (h .count) (length ss) ∷ countFault (total (λ s. s .count) ss) (length ms) ∷ [])
+unfoldable pub countsFault : Survey → ℕ
+countsFault a =
+    inOrder (countFault (a .header .count) (length (a .storeys)) ∷ countFault (total (λ s. s .count) (a .storeys)) (length (a .members)) ∷ [])
 
 -- storey i: its 3, its 5 (its number is one of those before it), then its members' 3, 4 and 5
 unfoldable pub storeyRowsFault : List Storey → List Member → ℕ → ℕ
 storeyRowsFault ss ms i = inOrder (storeyFault (storeyIn ss i) ∷ repeated (λ e. storeyIn ss e .number) i ∷ memberRowsFault (membersOf ss ms i) ∷ [])
 
 -- the first refusal of a survey's records: "1 over all, then records in survey order: 3, 4, 5, 7"
-unfoldable pub recordsFault : Header → List Storey → List Member → ℕ
-recordsFault h ss ms = inOrder (countsFault h ss ms ∷ headerFault h ∷ first 0 (λ n. n) (storeyRowsFault ss ms) (length ss) ∷ [])
+unfoldable pub recordsFault : Survey → ℕ
+recordsFault a =
+    inOrder (countsFault a ∷ headerFault (a .header) ∷ first 0 (λ n. n) (storeyRowsFault (a .storeys) (a .members)) (length (a .storeys)) ∷ [])

@@ -5,6 +5,7 @@ ghost use mathlib.Core.Path.{_≡_};
 ghost use Prim.Native.Nat.{ℕ, _≤_};
 ghost use lib.Dec.{eqb};
 ghost use lib.ListN.{length};
+ghost use Rattle.records.specs.Records.{surveyOf};
 ghost use Rattle.records.specs.Notation.{pick, anyBelow, first, total};
 ghost use Rattle.checks.specs.Rows.{memberIn, memberRowsFault, storeyIn, storeyRowsFault, recordsFault};
 ghost use Rattle.checks.specs.RowChecks.{Counted};
@@ -109,7 +110,7 @@ fn rows_fault(storeys: &[Storey], members: &[Member]) -> u64
 
 // The first refusal of a survey's records: 1 over all, then the records in survey order; 0 where there is none.
 pub fn records_fault(h: Header, storeys: &[Storey], members: &[Member]) -> u64
-    ensures { λ r. ⌜ r ≡ recordsFault h (now (storeys .entry)) (now (members .entry)) ⌝ }
+    ensures { λ r. ⌜ r ≡ recordsFault (surveyOf h (now (storeys .entry)) (now (members .entry))) ⌝ }
 {
     let fit = counts_fit(storeys, members.len());
     let first = header_call_fault(h, storeys.len(), fit);

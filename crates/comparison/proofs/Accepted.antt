@@ -8,7 +8,7 @@ use lib.Dec.{eqb}
 use lib.ListN.{length}
 use borrow.Author.Tests.{eqb-true, eq-eqb, leb-true}
 use Rattle.records.specs.Notation.{pick, everyBelow}
-use Rattle.records.specs.Records.{inRange, storeyValues, storeyFault, memberFault, repeated}
+use Rattle.records.specs.Records.{inRange, storeyValues, storeyFault, memberFault, repeated, surveyOf}
 use Rattle.records.specs.declared.Header.{Header}
 use Rattle.records.specs.declared.Storey.{Storey}
 use Rattle.records.specs.declared.Member.{Member}
@@ -46,7 +46,7 @@ level-positive k e = go (eqb k 90) (eqb k 100) refl refl e
     go false true f g h = omega (arith, eqb-true k 100 g)
     go false false f g h = absurd (never h)
 
-module _ (h : Header) (ss : List Storey) (ms : List Member) (none : recordsFault h ss ms ≡ 0) where
+module _ (h : Header) (ss : List Storey) (ms : List Member) (none : recordsFault (surveyOf h ss ms) ≡ 0) where
   sound-at : (i : ℕ) → i < length ss → Sound (h .knowledge) (record { storey = storeyIn ss i; members = membersOf ss ms i })
   sound-at i l =
       record {
@@ -56,7 +56,7 @@ module _ (h : Header) (ss : List Storey) (ms : List Member) (none : recordsFault
         members = one (rest (rest (rows h ss ms none i l)));
       }
 
-  verdict-at : (rules : Rules) (place : ℕ) → buildingRiskyIn (buildingAnswerBy rules h ss ms place) ≡ buildingRisky rules h ss ms
+  verdict-at : (rules : Rules) (place : ℕ) → buildingRiskyIn (buildingAnswerBy rules (surveyOf h ss ms) place) ≡ buildingRisky rules (surveyOf h ss ms)
   unfolding buildingAnswerBy
   verdict-at rules place = rw (eq-eqb _ _ none)
 
@@ -100,13 +100,13 @@ clear-by true fault f e h = eqb-true fault 0 e
 clear-by false fault f e h = h
 
 module _ (rules : Rules) (a : Survey) (r : BuildingAnswer) (acc : Accepted rules a r) where
-  pub building-clear : recordsFault (a .header) (a .storeys) (a .members) ≡ 0
+  pub building-clear : recordsFault a ≡ 0
   unfolding buildingAnswerBy
   building-clear =
       let e = ap (λ (x : Returned). x .refusal) (acc .answers .same) in
-      clear-by (eqb (recordsFault (a .header) (a .storeys) (a .members)) 0) _ _ refl (sym e ∙ acc .no-refusal)
+      clear-by (eqb (recordsFault a) 0) _ _ refl (sym e ∙ acc .no-refusal)
 
-  pub verdict-found : buildingRiskyIn r ≡ buildingRisky rules (a .header) (a .storeys) (a .members)
+  pub verdict-found : buildingRiskyIn r ≡ buildingRisky rules a
   verdict-found = ap buildingRiskyIn (answer-same rules (a .header) (a .storeys) (a .members) r (acc .answers)) ∙ verdict-at (a .header) (a .storeys) (a .members) building-clear rules (placeIn r)
 
   pub level-known : knowledge (a .header .knowledge) ≡ true

@@ -79,7 +79,7 @@ some-listed p f (suc n) = rw (some-after p (listed f n) (f n), some-listed p f n
 abbrev verdict : Rules → ℕ → StoreyMembers → Bool
 verdict rules k f = storeyRisky rules k (f .storey .shear) (f .members)
 
-some-storey : (rules : Rules) (a : Survey) → anyOf (verdict rules (a .header .knowledge)) (storeysMembers a) ≡ someRisky rules (a .header) (a .storeys) (a .members)
+some-storey : (rules : Rules) (a : Survey) → anyOf (verdict rules (a .header .knowledge)) (storeysMembers a) ≡ someRisky rules a
 unfolding someRisky riskyAt
 some-storey rules a = some-listed (verdict rules (a .header .knowledge)) (storeyMembersAt a) (length (a .storeys))
 
@@ -108,7 +108,7 @@ module _ (walls : WallCondition) (rules : Rules) (good : Orderly rules) (falls :
       each Facts (λ f g ms. verdict rules (a .header .knowledge) f ≡ true → verdict rules (b .header .knowledge) g ≡ true)
       (λ f g ms h. risky-kept walls rules good falls (a .header .knowledge) (b .header .knowledge) same-level positive f g ms (h .0 .0) (h .0 .1) (h .1)) pairs facts
 
-  building-kept : buildingRisky rules (a .header) (a .storeys) (a .members) ≡ true → buildingRisky rules (b .header) (b .storeys) (b .members) ≡ true
+  building-kept : buildingRisky rules a ≡ true → buildingRisky rules b ≡ true
   unfolding buildingRisky
   building-kept =
       or-carried _ _ _ _

@@ -1,17 +1,14 @@
 -- Demand 3 of the mission: a survey that is nowhere better never clears a member, a storey or a building. Its words, then the claim.
 use Rattle.records.specs.Notation.{ℕ, _≤_, Bool, true, false, List, _≡_, length, listed}
-use Rattle.checks.specs.Rows.{Header, Storey, Member, storeyIn, membersOf}
+use Rattle.checks.specs.Rows.{Storey, Member, storeyIn, membersOf}
+pub use Rattle.records.specs.Records.{Survey}
 use Rattle.members.specs.declared.finding.MemberAnswer.{MemberAnswer, the-variants.Judged as JudgedMember, the-variants.Refused as RefusedMember}
 use Rattle.storeys.specs.declared.{StoreyAnswer.StoreyAnswer, StoreyAnswer.the-variants.Judged as JudgedStorey, StoreyAnswer.the-variants.Refused as RefusedStorey, BuildingAnswer.BuildingAnswer, BuildingAnswer.the-variants.Judged as JudgedBuilding, BuildingAnswer.the-variants.Refused as RefusedBuilding}
 use Rattle.members.specs.{declared.class.Class.the-variants.ColumnC, Class.isWall, Class.classOf, Finding.answerBy}
 use Rattle.storeys.specs.{Storey.Rules, Storey.publishedRules, Storey.meetsWallShare, Storey.storeyAnswerBy, Building.Answers, Building.returnedBuilding}
 use Rattle.comparison.specs.Pairing.{Pairing, EveryPair}
 
--- SURVEY: "a header with its storeys and members as records", which are the arguments of the call on a building
-pub record Survey : Type 0 where
-  pub header : Header
-  pub storeys : List Storey
-  pub members : List Member
+-- SURVEY, "a header with its storeys and members as records", which are the arguments of the call on a building: `Survey` of records/specs/Records
 
 -- a storey with its members
 pub record StoreyMembers : Type 0 where
@@ -27,7 +24,7 @@ storeysMembers a = listed (storeyMembersAt a) (length (a .storeys))
 
 -- ACCEPTED: "the building call returns no refusal for it"; r is that call's answer, whichever Risky storey it names
 pub record Accepted (rules : Rules) (a : Survey) (r : BuildingAnswer) : Type 0 where
-  pub answers : Answers rules (a .header) (a .storeys) (a .members) r
+  pub answers : Answers rules a r
   pub no-refusal : returnedBuilding r .refusal ≡ 0
 
 -- OVER and RISKY: "what the calls on a member, a storey and a building answer, each member judged with the k of its survey and the 0.40

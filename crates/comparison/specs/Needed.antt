@@ -140,7 +140,7 @@ needed =
 abbrev pub answer : Given → List ℕ
 answer g =
     let a : Survey = neededSurvey g in
-    let r = returnedBuilding (buildingAnswerBy publishedRules (a .header) (a .storeys) (a .members) 0) in
+    let r = returnedBuilding (buildingAnswerBy publishedRules a 0) in
     r .refusal ∷ take 2 (r .values)
 
 -- all are accepted, and each time the first building is Risky and the second not

@@ -10,10 +10,10 @@ use Rattle.determination.proofs.Room.{never-nine}
 
 pub accepted-judged : AcceptedJudged
 unfolding buildingAnswerBy
-accepted-judged s srows mrows h ss ms e rules place = rw (eq-eqb _ 0 (accepted-pass s srows mrows h ss ms e))
+accepted-judged s srows mrows a e rules place = rw (eq-eqb _ 0 (accepted-pass s srows mrows a e))
 
 pub accepted-printed : AcceptedPrinted
 unfolding text
-accepted-printed input h ss ms room few e enough =
-    let none = never-nine input h ss ms room e enough ∙ accepted-pass input storeyRows memberRows h ss ms e in
+accepted-printed input a room few e enough =
+    let none = never-nine input a room e enough ∙ accepted-pass input storeyRows memberRows a e in
     sym (not-too-long input room few) ∙ rw (e, eq-eqb _ 0 none)

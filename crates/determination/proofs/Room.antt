@@ -8,9 +8,7 @@ use mathlib.Core.Path.{_≡_, refl, sym}
 use lib.Dec.{eqb}
 use lib.ListN.{length}
 use borrow.Author.Tests.{eqb-true, le-leb}
-use Rattle.records.specs.declared.Header.{Header}
-use Rattle.records.specs.declared.Storey.{Storey}
-use Rattle.records.specs.declared.Member.{Member}
+use Rattle.records.specs.Records.{Survey}
 use Rattle.format.specs.Lines.{headerAt}
 use Rattle.reading.specs.Survey.{Outcome, accepted, survey, surveyFault, storey}
 use Rattle.reading.specs.Answer.{told, storeysTold}
@@ -41,15 +39,15 @@ module _ (s : List ℕ) (srows mrows : ℕ) where
   pub held : Held srows mrows (survey s srows mrows)
   held = held-by (eqb (surveyFault s srows mrows .number) 0) refl
 
-module _ (h : Header) (ss : List Storey) (ms : List Member) (room : ℕ) (few : Held storeyRows memberRows (accepted h ss ms)) (enough : 28_286 ≤ room) where
-  by-building : (t : Bool) → eqb (recordsFault h ss ms) 0 ≡ t → reportFault h ss ms room ≡ recordsFault h ss ms
+module _ (a : Survey) (room : ℕ) (few : Held storeyRows memberRows (accepted a)) (enough : 28_286 ≤ room) where
+  by-building : (t : Bool) → eqb (recordsFault a) 0 ≡ t → reportFault a room ≡ recordsFault a
   unfolding reportFault
   by-building true e =
-      let none = eqb-true (recordsFault h ss ms) 0 e in
-      let fits : length (sheet h ss ms) ≤ room = omega (arith, length-sheet h ss ms none, few) in
-      rw (none, le-leb (length (sheet h ss ms)) room fits)
+      let none = eqb-true (recordsFault a) 0 e in
+      let fits : length (sheet a) ≤ room = omega (arith, length-sheet (a .header) (a .storeys) (a .members) none, few) in
+      rw (none, le-leb (length (sheet a)) room fits)
   by-building false e = rw e
 
 -- a file that is read has no refusal 9
-pub never-nine : (s : List ℕ) (h : Header) (ss : List Storey) (ms : List Member) (room : ℕ) → survey s storeyRows memberRows ≡ accepted h ss ms → 28_286 ≤ room → reportFault h ss ms room ≡ recordsFault h ss ms
-never-nine s h ss ms room e enough = by-building h ss ms room (rw e at (held s storeyRows memberRows)) enough (eqb (recordsFault h ss ms) 0) refl
+pub never-nine : (s : List ℕ) (a : Survey) (room : ℕ) → survey s storeyRows memberRows ≡ accepted a → 28_286 ≤ room → reportFault a room ≡ recordsFault a
+never-nine s a room e enough = by-building a room (rw e at (held s storeyRows memberRows)) enough (eqb (recordsFault a) 0) refl

@@ -15,7 +15,7 @@ memberRows = 320
 
 -- "the sheet, or one line `E` with refusal and line": what a read file comes to, for a buffer of so many bytes. The program lends 28,286, the longest sheet, so that 9 does not occur there (`never-nine` of proofs/Room)
 unfoldable pub text : Outcome → ℕ → List ℕ
-text (accepted h ss ms) room = pick (eqb (reportFault h ss ms room) 0) (sheet h ss ms) (refusalLine (reportFault h ss ms room) 0)
+text (accepted a) room = pick (eqb (reportFault a room) 0) (sheet a) (refusalLine (reportFault a room) 0)
 text (refused n line) room = refusalLine n line
 
 -- the same of an input of any length: "a longer input prints `E` with 8 and 0"

@@ -6,7 +6,7 @@ use mathlib.Core.Path.{_≡_}
 use lib.Dec.{eqb}
 use lib.ListN.{length, getD, take}
 use Rattle.records.specs.Notation.{pick, listed}
-use Rattle.records.specs.Records.{zeroForce}
+use Rattle.records.specs.Records.{zeroForce, surveyOf}
 use Rattle.records.specs.declared.Header.{Header}
 use Rattle.records.specs.declared.Storey.{Storey}
 use Rattle.records.specs.declared.Member.{Member}
@@ -89,7 +89,7 @@ abbrev pub tilt : ℕ → ℕ → List ℕ
 tilt t1 t2 =
     let h : Header = record { knowledge = 100; height = 9_000; storeys = 3; tilt1 = t1; tilt2 = t2; count = 1 } in
     let ms : List Member = loaded 1 0 0 0 0 ∷ [] in
-    take 2 (returnedBuilding (buildingAnswerBy publishedRules h (edgeStorey ms ∷ []) ms 0) .values)
+    take 2 (returnedBuilding (buildingAnswerBy publishedRules (surveyOf h (edgeStorey ms ∷ []) ms) 0) .values)
 
 -- members 1 to n, the first with damage kind 4
 abbrev pub oneDamaged : ℕ → List Member

@@ -14,7 +14,7 @@ use Rattle.reading.specs.Answer.{told, storeysAfter, membersAfter}
 use Rattle.walk.proofs.Fn.{Plain}
 use Rattle.walk.proofs.Slice.{R}
 use Rattle.records.proofs.Structs.{member, storey}
-use Rattle.records.specs.Records.{headerBy, storeyBy}
+use Rattle.records.specs.Records.{headerBy, storeyBy, surveyOf}
 use Rattle.storeys.specs.Storey.{storeyReturned}
 use Rattle.report.specs.Sheet.{reportReturned, bufferAfter}
 use Rattle.writing.specs.Writing.{fileReturned, fileAfter}
@@ -51,16 +51,16 @@ abbrev pub llunareth-judge-building : Plain {n = 4} (pShrS words 0 tt ∷ pShrS 
 llunareth-judge-building = record {
   requires = λ κs a. [];
   ensures = λ κs a z e.
-      BuildingGiven (headerBy (handed (a .0 .now))) (a .1 .0 .now) (a .1 .1 .0 .now) (a .1 .1 .1 .0 .now) z (e .1 .1 .1 .0 .now) ∷ [];
+      BuildingGiven (surveyOf (headerBy (handed (a .0 .now))) (a .1 .0 .now) (a .1 .1 .0 .now)) (a .1 .1 .1 .0 .now) z (e .1 .1 .1 .0 .now) ∷ [];
 }
 
 abbrev pub llunareth-report : Plain {n = 5} (pShrS words 0 tt ∷ pShrS (R storey) 1 tt ∷ pShrS (R member) 2 tt ∷ pMutS bytes 3 tt ∷ pMutS words 4 tt ∷ []) (rNum w64)
 llunareth-report = record {
   requires = λ κs a. [];
   ensures = λ κs a z e.
-      (z ≡ given reportCount (reportReturned (headerBy (handed (a .0 .now))) (a .1 .0 .now) (a .1 .1 .0 .now) (length (a .1 .1 .1 .0 .now))) (a .1 .1 .1 .1 .0 .now))
-      ∷ (e .1 .1 .1 .1 .0 .now ≡ outAfter reportCount (reportReturned (headerBy (handed (a .0 .now))) (a .1 .0 .now) (a .1 .1 .0 .now) (length (a .1 .1 .1 .0 .now))) (a .1 .1 .1 .1 .0 .now))
-      ∷ (e .1 .1 .1 .0 .now ≡ ifRoom reportCount (a .1 .1 .1 .1 .0 .now) (bufferAfter (headerBy (handed (a .0 .now))) (a .1 .0 .now) (a .1 .1 .0 .now) (a .1 .1 .1 .0 .now)) (a .1 .1 .1 .0 .now))
+      (z ≡ given reportCount (reportReturned (surveyOf (headerBy (handed (a .0 .now))) (a .1 .0 .now) (a .1 .1 .0 .now)) (length (a .1 .1 .1 .0 .now))) (a .1 .1 .1 .1 .0 .now))
+      ∷ (e .1 .1 .1 .1 .0 .now ≡ outAfter reportCount (reportReturned (surveyOf (headerBy (handed (a .0 .now))) (a .1 .0 .now) (a .1 .1 .0 .now)) (length (a .1 .1 .1 .0 .now))) (a .1 .1 .1 .1 .0 .now))
+      ∷ (e .1 .1 .1 .0 .now ≡ ifRoom reportCount (a .1 .1 .1 .1 .0 .now) (bufferAfter (surveyOf (headerBy (handed (a .0 .now))) (a .1 .0 .now) (a .1 .1 .0 .now)) (a .1 .1 .1 .0 .now)) (a .1 .1 .1 .0 .now))
       ∷ [];
 }
 
@@ -68,8 +68,8 @@ abbrev pub llunareth-write : Plain {n = 5} (pShrS words 0 tt ∷ pShrS (R storey
 llunareth-write = record {
   requires = λ κs a. [];
   ensures = λ κs a z e.
-      (z ≡ given fileCount (fileReturned (headerBy (handed (a .0 .now))) (a .1 .0 .now) (a .1 .1 .0 .now) (length (a .1 .1 .1 .0 .now))) (a .1 .1 .1 .1 .0 .now))
-      ∷ (e .1 .1 .1 .1 .0 .now ≡ outAfter fileCount (fileReturned (headerBy (handed (a .0 .now))) (a .1 .0 .now) (a .1 .1 .0 .now) (length (a .1 .1 .1 .0 .now))) (a .1 .1 .1 .1 .0 .now))
-      ∷ (e .1 .1 .1 .0 .now ≡ ifRoom fileCount (a .1 .1 .1 .1 .0 .now) (fileAfter (headerBy (handed (a .0 .now))) (a .1 .0 .now) (a .1 .1 .0 .now) (a .1 .1 .1 .0 .now)) (a .1 .1 .1 .0 .now))
+      (z ≡ given fileCount (fileReturned (surveyOf (headerBy (handed (a .0 .now))) (a .1 .0 .now) (a .1 .1 .0 .now)) (length (a .1 .1 .1 .0 .now))) (a .1 .1 .1 .1 .0 .now))
+      ∷ (e .1 .1 .1 .1 .0 .now ≡ outAfter fileCount (fileReturned (surveyOf (headerBy (handed (a .0 .now))) (a .1 .0 .now) (a .1 .1 .0 .now)) (length (a .1 .1 .1 .0 .now))) (a .1 .1 .1 .1 .0 .now))
+      ∷ (e .1 .1 .1 .0 .now ≡ ifRoom fileCount (a .1 .1 .1 .1 .0 .now) (fileAfter (surveyOf (headerBy (handed (a .0 .now))) (a .1 .0 .now) (a .1 .1 .0 .now)) (a .1 .1 .1 .0 .now)) (a .1 .1 .1 .0 .now))
       ∷ [];
 }

@@ -8,9 +8,7 @@ use Rattle.records.specs.Notation.{pick}
 use Rattle.members.specs.Finding.{Returned}
 use Rattle.words.specs.Words.{packed}
 use Rattle.reading.specs.Answer.{Told, filled, refusal}
-use Rattle.records.specs.declared.Header.{Header}
-use Rattle.records.specs.declared.Storey.{Storey}
-use Rattle.records.specs.declared.Member.{Member}
+use Rattle.records.specs.Records.{Survey}
 use Rattle.storeys.specs.declared.BuildingAnswer.{BuildingAnswer}
 use Rattle.storeys.specs.Storey.{publishedRules}
 use Rattle.columns.specs.Line.{atFront}
@@ -66,7 +64,7 @@ readingReturned (filled h storeys members) =
 readingReturned (refusal number line) = record { refusal = number; line = line; values = [] }
 
 -- what the call on a building gives and leaves in `out`, with room there by an answer that document 01 gives
-pub data BuildingGiven (h : Header) (ss : List Storey) (ms : List Member) (before : List ℕ) (result : ℕ) (after : List ℕ) : Type 0 where
-  no-room : length before < buildingCount → result ≡ short → after ≡ before → BuildingGiven h ss ms before result after
-  room : buildingCount ≤ length before → (answer : BuildingAnswer) → Answers publishedRules h ss ms answer
-      → result ≡ packed (returnedBuilding answer) → after ≡ atFront (returnedBuilding answer .values) before → BuildingGiven h ss ms before result after
+pub data BuildingGiven (a : Survey) (before : List ℕ) (result : ℕ) (after : List ℕ) : Type 0 where
+  no-room : length before < buildingCount → result ≡ short → after ≡ before → BuildingGiven a before result after
+  room : buildingCount ≤ length before → (answer : BuildingAnswer) → Answers publishedRules a answer
+      → result ≡ packed (returnedBuilding answer) → after ≡ atFront (returnedBuilding answer .values) before → BuildingGiven a before result after

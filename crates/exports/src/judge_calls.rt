@@ -1,6 +1,6 @@
 // The calls on a member, a storey and a building.
 ghost use mathlib.Core.Path.{_≡_};
-ghost use Rattle.records.specs.Records.{headerBy, memberBy, storeyBy};
+ghost use Rattle.records.specs.Records.{headerBy, memberBy, storeyBy, surveyOf};
 ghost use Rattle.storeys.specs.Storey.{storeyReturned};
 ghost use Rattle.members.specs.Finding.{memberReturned};
 ghost use Rattle.words.specs.Words.{handed};
@@ -65,7 +65,7 @@ pub extern "C" fn llunareth_judge_building(
     members: &[Member],
     out: &mut [u64],
 ) -> u64
-    ensures { λ r. ⌜ BuildingGiven (headerBy (handed (now (header .entry)))) (now (storeys .entry)) (now (members .entry)) (now (out .entry)) r (now (out .exit)) ⌝ }
+    ensures { λ r. ⌜ BuildingGiven (surveyOf (headerBy (handed (now (header .entry)))) (now (storeys .entry)) (now (members .entry))) (now (out .entry)) r (now (out .exit)) ⌝ }
 {
     if out.len() < BUILDING_COUNT {
         return SHORT;

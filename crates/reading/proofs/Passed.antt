@@ -12,7 +12,7 @@ use lib.Seq.{take-all, take-append-le, drop-append-le, drop-append-add}
 use borrow.Author.Tests.{eqb-true, eq-eqb}
 use Rattle.records.specs.Blank.{noStorey, noMember}
 use Rattle.records.specs.Notation.{pick, inOrder, total, listed}
-use Rattle.records.specs.Records.{headerFault, storeyFault, memberFault, repeated}
+use Rattle.records.specs.Records.{headerFault, storeyFault, memberFault, repeated, Survey, surveyOf}
 use Rattle.checks.specs.Rows.{storeyIn, memberIn, membersOf, countFault, countsFault, rowFault, memberRowsFault, storeyRowsFault, recordsFault}
 use Rattle.checks.specs.Rows as Rows
 use Rattle.records.specs.declared.Header.{Header}
@@ -153,26 +153,26 @@ module _ (s : List ℕ) (srows mrows : ℕ) (z : surveyFault s srows mrows .numb
   count-none : (a b : ℕ) → a ≡ b → countFault a b ≡ 0
   count-none a b e = rw (eq-eqb a b e)
 
-  counts-none : countsFault (headerAt s 0) ss ms ≡ 0
+  counts-none : countsFault (surveyOf (headerAt s 0) ss ms) ≡ 0
   unfolding countsFault
   counts-none =
       in-order-none
       (also (count-none n (length ss) (sym (length-listed (storey s) n)))
       (also (count-none (total (λ t. t .count) ss) (length ms) (total-all s n ∙ sym (length-members s n))) end))
 
-  pub records-pass : recordsFault (headerAt s 0) ss ms ≡ 0
+  pub records-pass : recordsFault (surveyOf (headerAt s 0) ss ms) ≡ 0
   unfolding recordsFault
   records-pass =
       in-order-none
       (also counts-none (also header-good (also (first-zero 0 (λ r. r) (storeyRowsFault ss ms) (length ss) refl (λ i l. storey-none i (omega (arith, length-listed (storey s) n)))) end)))
 
 -- ---- an accepted file has no refusal, and its records are those that stand in its lines
-pub of-accepted : (t : Bool) (h k : Header) (ss us : List Storey) (ms ns : List Member) (r l : ℕ) → pick t (accepted h ss ms) (refused r l) ≡ accepted k us ns → (t ≡ true) × (h ≡ k) × (ss ≡ us) × (ms ≡ ns)
-of-accepted true h k ss us ms ns r l e = (refl, cc, cc, cc)
-of-accepted false h k ss us ms ns r l e = let z : _≡_ {A = ℕ} 0 1 = cc in absurd (omega arith)
+pub of-accepted : (t : Bool) (a b : Survey) (r l : ℕ) → pick t (accepted a) (refused r l) ≡ accepted b → (t ≡ true) × (a ≡ b)
+of-accepted true a b r l e = (refl, cc)
+of-accepted false a b r l e = let z : _≡_ {A = ℕ} 0 1 = cc in absurd (omega arith)
 
 pub accepted-pass : AcceptedPass
 unfolding survey
-accepted-pass s srows mrows h us ns e =
-    let a = of-accepted (eqb (surveyFault s srows mrows .number) 0) _ h _ us _ ns _ _ e in
-    rw (a .3, a .2, a .1) at (records-pass s srows mrows (eqb-true _ 0 (a .0)))
+accepted-pass s srows mrows b e =
+    let q = of-accepted (eqb (surveyFault s srows mrows .number) 0) _ b _ _ e in
+    rw (q .1) at (records-pass s srows mrows (eqb-true _ 0 (q .0)))

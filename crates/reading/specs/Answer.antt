@@ -15,16 +15,16 @@ tells (Refused n line) = refusal n line
 
 -- what is told of an outcome
 abbrev pub told : Outcome → Told
-told (accepted h ss ms) = filled h (length ss) (length ms)
+told (accepted a) = filled (a .header) (length (a .storeys)) (length (a .members))
 told (refused n line) = refusal n line
 
 -- the rows afterwards: filled from the front, the rest as they were; on a refusal all as they were
 abbrev pub storeysAfter : Outcome → List Storey → List Storey
-storeysAfter (accepted h ss ms) rows = ss ++ drop (length ss) rows
+storeysAfter (accepted a) rows = a .storeys ++ drop (length (a .storeys)) rows
 storeysAfter (refused n line) rows = rows
 
 abbrev pub membersAfter : Outcome → List Member → List Member
-membersAfter (accepted h ss ms) rows = ms ++ drop (length ms) rows
+membersAfter (accepted a) rows = a .members ++ drop (length (a .members)) rows
 membersAfter (refused n line) rows = rows
 
 -- how many storey rows an answer says were filled

@@ -2,12 +2,9 @@
 use Prim.Native.Nat.{ℕ}
 use mathlib.Core.List.{List}
 use mathlib.Core.Path.{_≡_}
-use Rattle.records.specs.declared.Header.{Header}
-use Rattle.records.specs.declared.Storey.{Storey}
-use Rattle.records.specs.declared.Member.{Member}
-use Rattle.checks.specs.Rows.{recordsFault}
+use Rattle.checks.specs.Rows.{Survey, recordsFault}
 use Rattle.reading.specs.Survey.{accepted, survey}
 
 -- of every file, whatever rows it is read into
 abbrev pub AcceptedPass : Type 0
-AcceptedPass = (s : List ℕ) (srows mrows : ℕ) (h : Header) (ss : List Storey) (ms : List Member) → survey s srows mrows ≡ accepted h ss ms → recordsFault h ss ms ≡ 0
+AcceptedPass = (s : List ℕ) (srows mrows : ℕ) (a : Survey) → survey s srows mrows ≡ accepted a → recordsFault a ≡ 0

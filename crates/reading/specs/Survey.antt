@@ -1,8 +1,8 @@
 -- A survey file (document 01, "The survey record", "Refusals as returned"): the place and the number of each line, the first refusal
 -- of each, the first refusal of the file, and what an accepted file holds.
 use Rattle.records.specs.Notation.{ℕ, zero, suc, _+_, _*_, List, [], _∷_, _++_, ltb, eqb, length, drop, pick, inOrder, first, listed}
-use Rattle.records.specs.declared.{Header.Header, Storey.Storey, Member.Member, Tag.Tag, Tag.the-variants.B, Tag.the-variants.S, Tag.the-variants.M}
-use Rattle.records.specs.Records.{headerFault, storeyFault, memberFault, repeated}
+use Rattle.records.specs.declared.{Storey.Storey, Member.Member, Tag.Tag, Tag.the-variants.B, Tag.the-variants.S, Tag.the-variants.M}
+use Rattle.records.specs.Records.{Survey, surveyOf, headerFault, storeyFault, memberFault, repeated}
 use Rattle.format.specs.Lines.{lineSize, shaped, fieldsFault, headerAt, storeyAt, memberAt}
 use Rattle.reading.specs.declared.survey.Fault.{Fault}
 
@@ -89,11 +89,11 @@ firstMembers s (suc i) = firstMembers s i ++ listed (member s i) (storey s i .co
 
 -- what reading a file comes to, with so many storey and member rows lent
 pub data Outcome : Type 0 where
-  accepted : Header → List Storey → List Member → Outcome
+  accepted : Survey → Outcome
   refused : ℕ → ℕ → Outcome
 
 unfoldable pub survey : List ℕ → ℕ → ℕ → Outcome
 survey s srows mrows =
     pick (eqb (surveyFault s srows mrows .number) 0)
-    (accepted (headerAt s 0) (listed (storey s) (headerAt s 0 .count)) (firstMembers s (headerAt s 0 .count)))
+    (accepted (surveyOf (headerAt s 0) (listed (storey s) (headerAt s 0 .count)) (firstMembers s (headerAt s 0 .count))))
     (refused (surveyFault s srows mrows .number) (surveyFault s srows mrows .line))

@@ -2,6 +2,15 @@
 use Rattle.records.specs.Notation.{ℕ, _+_, _-_, Bool, _&&_, _||_, List, [], _∷_, leb, eqb, getD, pick, everyBelow, anyBelow}
 use Rattle.records.specs.declared.{Header.Header, Storey.Storey, Member.Member, Tag.Tag, Tag.the-variants.B, Tag.the-variants.S, Tag.the-variants.M}
 
+-- a survey: "a header with its storeys and members as records"
+pub record Survey : Type 0 where
+  pub header : Header
+  pub storeys : List Storey
+  pub members : List Member
+
+abbrev pub surveyOf : Header → List Storey → List Member → Survey
+surveyOf h ss ms = record { header = h; storeys = ss; members = ms }
+
 -- what a field may hold: the numbers from one to another, or one of two
 pub data Allowed : Type 0 where
   between : ℕ → ℕ → Allowed

@@ -7,6 +7,7 @@ use mathlib.Core.Path.{_≡_, refl, sym, _∙_, ap}
 use lib.Dec.{leb, eqb}
 use lib.ListN.{length, length-append}
 use borrow.Author.Tests.{eq-eqb, ne-eqb, eqb-true, leb-true}
+use Rattle.records.specs.Records.{surveyOf}
 use Rattle.records.specs.declared.Header.{Header}
 use Rattle.records.specs.declared.Storey.{Storey}
 use Rattle.records.specs.declared.Member.{Member}
@@ -28,7 +29,7 @@ use Rattle.report.proofs.Survey.{part-length}
 use Rattle.checks.proofs.RowLoops.{none-before}
 
 -- ---- the sheet's length: 86 bytes for each member, 74 for each storey, 26 for the building
-module _ (h : Header) (ss : List Storey) (ms : List Member) (none : recordsFault h ss ms ≡ 0) where
+module _ (h : Header) (ss : List Storey) (ms : List Member) (none : recordsFault (surveyOf h ss ms) ≡ 0) where
   length-storeys : (k i n : ℕ) → length (storeysLines k ss ms i n) + 86 * membersBefore ss i ≡ 86 * membersBefore ss (i + n) + 74 * n
   unfolding storeysLines membersBefore
   length-storeys k i zero = let e : i + 0 ≡ i = omega arith in rw e (omega arith)
@@ -48,59 +49,59 @@ module _ (h : Header) (ss : List Storey) (ms : List Member) (none : recordsFault
       let e : 0 + length ss ≡ length ss = omega arith in
       omega (arith, (rw e at (length-storeys (h .knowledge) 0 (length ss))), none-before ss, before-end h ss ms none)
 
-  pub length-sheet : length (sheet h ss ms) ≡ sizeOf (length ss) (length ms)
+  pub length-sheet : length (sheet (surveyOf h ss ms)) ≡ sizeOf (length ss) (length ms)
   unfolding sheet
   length-sheet =
-      let b = buildingLine (tilted h) (buildingRisky publishedRules h ss ms) in
-      omega (arith, length-append (storeysLines (h .knowledge) ss ms 0 (length ss)) b, length-printed, length-building-line (tilted h) (buildingRisky publishedRules h ss ms))
+      let b = buildingLine (tilted h) (buildingRisky publishedRules (surveyOf h ss ms)) in
+      omega (arith, length-append (storeysLines (h .knowledge) ss ms 0 (length ss)) b, length-printed, length-building-line (tilted h) (buildingRisky publishedRules (surveyOf h ss ms)))
 
 -- ---- the refusals
-module _ (h : Header) (ss : List Storey) (ms : List Member) (first : ℕ) (e : first ≡ recordsFault h ss ms) where
+module _ (h : Header) (ss : List Storey) (ms : List Member) (first : ℕ) (e : first ≡ recordsFault (surveyOf h ss ms)) where
   pub few : Few first (length ss) (length ms)
   few z = (storeys-most h ss ms (sym e ∙ z), members-most h ss ms (sym e ∙ z))
 
-  fault-by : (t : Bool) (room : ℕ) → eqb first 0 ≡ t → faultBy first (length ss) (length ms) room ≡ reportFault h ss ms room
+  fault-by : (t : Bool) (room : ℕ) → eqb first 0 ≡ t → faultBy first (length ss) (length ms) room ≡ reportFault (surveyOf h ss ms) room
   unfolding reportFault
   fault-by true room q = rw (← e, q, length-sheet h ss ms (sym e ∙ eqb-true first 0 q)) (sym (last-of (lengthFault (sizeOf (length ss) (length ms)) room)))
   fault-by false room q = rw (← e, q)
 
-  pub fault-is : (z room : ℕ) → z ≡ faultBy first (length ss) (length ms) room → z ≡ reportFault h ss ms room
+  pub fault-is : (z room : ℕ) → z ≡ faultBy first (length ss) (length ms) room → z ≡ reportFault (surveyOf h ss ms) room
   fault-is z room q = q ∙ fault-by (eqb first 0) room refl
 
 -- ---- a refusal
-module _ (h : Header) (ss : List Storey) (ms : List Member) (before : List ℕ) (z : ℕ) (e : z ≡ reportFault h ss ms (length before)) where
+module _ (h : Header) (ss : List Storey) (ms : List Member) (before : List ℕ) (z : ℕ) (e : z ≡ reportFault (surveyOf h ss ms) (length before)) where
   module _ (ne : z ≡ 0 → ⊥) where
-    pub answer-refused : (r : ReportAnswer) → r ≡ Refused z → returnedReport r ≡ reportReturned h ss ms (length before)
+    pub answer-refused : (r : ReportAnswer) → r ≡ Refused z → returnedReport r ≡ reportReturned (surveyOf h ss ms) (length before)
     unfolding reportAnswer
     answer-refused r q = ap returnedReport q ∙ rw (← e) (simp (ne-eqb z 0 ne))
 
-    pub buffer-refused : before ≡ bufferAfter h ss ms before
+    pub buffer-refused : before ≡ bufferAfter (surveyOf h ss ms) before
     unfolding bufferAfter
     buffer-refused = rw (← e) (simp (ne-eqb z 0 ne))
 
   -- ---- the sheet
   module _ (zero-fault : z ≡ 0) where
-    none-of-both : None (recordsFault h ss ms ∷ lengthFault (length (sheet h ss ms)) (length before) ∷ [])
+    none-of-both : None (recordsFault (surveyOf h ss ms) ∷ lengthFault (length (sheet (surveyOf h ss ms))) (length before) ∷ [])
     unfolding reportFault
     none-of-both = in-order-clear _ (sym e ∙ zero-fault)
 
-    pub building-clear : recordsFault h ss ms ≡ 0
+    pub building-clear : recordsFault (surveyOf h ss ms) ≡ 0
     building-clear = one none-of-both
 
-    pub sheet-fits : length (sheet h ss ms) ≤ length before
-    sheet-fits = leb-true (length (sheet h ss ms)) (length before) (clear (leb (length (sheet h ss ms)) (length before)) 0 9 (one (rest none-of-both)) (omega arith) .0)
+    pub sheet-fits : length (sheet (surveyOf h ss ms)) ≤ length before
+    sheet-fits = leb-true (length (sheet (surveyOf h ss ms))) (length before) (clear (leb (length (sheet (surveyOf h ss ms))) (length before)) 0 9 (one (rest none-of-both)) (omega arith) .0)
 
     pub room-enough : sizeOf (length ss) (length ms) ≤ length before
     room-enough = omega (arith, sheet-fits, length-sheet h ss ms building-clear)
 
-    pub answer-written : (r : ReportAnswer) (n : ℕ) → r ≡ Written n → n ≡ sizeOf (length ss) (length ms) → returnedReport r ≡ reportReturned h ss ms (length before)
+    pub answer-written : (r : ReportAnswer) (n : ℕ) → r ≡ Written n → n ≡ sizeOf (length ss) (length ms) → returnedReport r ≡ reportReturned (surveyOf h ss ms) (length before)
     unfolding reportAnswer
     answer-written r n q l = ap returnedReport q ∙ rw (← e, eq-eqb z 0 zero-fault, length-sheet h ss ms building-clear, l)
 
-    pub buffer-written : (filled ended : List ℕ) (p : ℕ) (risky : Bool) → filled ≡ stamped before 0 (storeysLines (h .knowledge) ss ms 0 (length ss)) → risky ≡ someRisky publishedRules h ss ms → p ≡ 86 * length ms + 74 * length ss → ended ≡ stamped filled p (buildingLine (tilted h) (risky || tilted h)) → ended ≡ bufferAfter h ss ms before
+    pub buffer-written : (filled ended : List ℕ) (p : ℕ) (risky : Bool) → filled ≡ stamped before 0 (storeysLines (h .knowledge) ss ms 0 (length ss)) → risky ≡ someRisky publishedRules (surveyOf h ss ms) → p ≡ 86 * length ms + 74 * length ss → ended ≡ stamped filled p (buildingLine (tilted h) (risky || tilted h)) → ended ≡ bufferAfter (surveyOf h ss ms) before
     unfolding bufferAfter sheet buildingRisky
     buffer-written filled ended p risky f r l q =
         q
         ∙ rw (f, r, ← e, eq-eqb z 0 zero-fault)
-        (stamped-both (storeysLines (h .knowledge) ss ms 0 (length ss)) (buildingLine (tilted h) (buildingRisky publishedRules h ss ms)) before 0 p (omega (arith, l, length-printed h ss ms building-clear))
-        ∙ stamped-front (sheet h ss ms) before sheet-fits)
+        (stamped-both (storeysLines (h .knowledge) ss ms 0 (length ss)) (buildingLine (tilted h) (buildingRisky publishedRules (surveyOf h ss ms))) before 0 p (omega (arith, l, length-printed h ss ms building-clear))
+        ∙ stamped-front (sheet (surveyOf h ss ms)) before sheet-fits)

@@ -4,7 +4,7 @@ use mathlib.Core.List.{List, [], _∷_, _++_}
 use mathlib.Core.Path.{_≡_, refl}
 use Rattle.format.specs.Spelling.{column, spelled}
 use Rattle.records.specs.Notation.{anyBelow, total, anyOf}
-use Rattle.records.specs.Records.{zeroForce}
+use Rattle.records.specs.Records.{zeroForce, surveyOf}
 use Rattle.records.specs.declared.Header.{Header}
 use Rattle.records.specs.declared.Storey.{Storey}
 use Rattle.records.specs.declared.Member.{Member}
@@ -85,6 +85,6 @@ thirdLine = 83 ∷ 32 ∷ 32 ∷ 32 ∷ 32 ∷ 32 ∷ 32 ∷ 32 ∷ 32 ∷ 32 �
 abbrev lastLine : List ℕ
 lastLine = 66 ∷ 32 ∷ 32 ∷ 32 ∷ 32 ∷ 32 ∷ 32 ∷ 32 ∷ 32 ∷ 32 ∷ 32 ∷ 32 ∷ 48 ∷ 32 ∷ 32 ∷ 32 ∷ 32 ∷ 32 ∷ 32 ∷ 32 ∷ 32 ∷ 32 ∷ 32 ∷ 32 ∷ 49 ∷ 10 ∷ []
 
-pub printed : sheet header (storey ∷ []) (one ∷ other ∷ []) ≡ firstLine ++ (secondLine ++ (thirdLine ++ lastLine))
+pub printed : sheet (surveyOf header (storey ∷ []) (one ∷ other ∷ [])) ≡ firstLine ++ (secondLine ++ (thirdLine ++ lastLine))
 unfolding sheet storeysLines storeyLines memberLines memberLine storeyLine buildingLine line printedNumbers spelled column anyBelow detailed columnClass wallClass classOf places moments rotations interp blend columnA columnB columnC wallRows wallB mLimitAt rotationLimitAt axial moment stress hoops mLimit rotationLimit mDropped isOver findingBy total anyOf meetsWallShare axialTotal overShear someOver damaged allowedShare exceedsShare riskyByDamage storeyRisky storeyFinding membersBefore membersOf riskyAt tilted someRisky buildingRisky
 printed = refl

@@ -6,6 +6,7 @@ use mathlib.Core.List.{List, [], _∷_, _++_, map, append-assoc, List·Permᴰ, 
 use mathlib.Core.Path.{_≡_, refl, ap, _∙_}
 use lib.Dec.{eqb}
 use lib.ListN.{length}
+use Rattle.records.specs.Records.{surveyOf}
 use Rattle.records.specs.Notation.{anyBelow, total, anyOf}
 use Rattle.records.specs.declared.Header.{Header}
 use Rattle.records.specs.declared.Storey.{Storey}
@@ -127,7 +128,7 @@ any-same f g zero e = refl
 any-same f g (suc n) e = rw (any-same f g n e, e n)
 
 module _ (h : Header) (ss : List Storey) (ms ns : List Member) (p : (i : ℕ) → List·Permᴰ (membersOf ss ms i) (membersOf ss ns i)) where
-  verdict-same : buildingRisky publishedRules h ss ms ≡ buildingRisky publishedRules h ss ns
+  verdict-same : buildingRisky publishedRules (surveyOf h ss ms) ≡ buildingRisky publishedRules (surveyOf h ss ns)
   unfolding buildingRisky someRisky riskyAt
   verdict-same =
       rw
@@ -141,6 +142,6 @@ module _ (h : Header) (ss : List Storey) (ms ns : List Member) (p : (i : ℕ) �
       rw (append-assoc (storeyLines k (storeyIn ss i) (membersOf ss ms i)), append-assoc (storeyLines k (storeyIn ss i) (membersOf ss ns i)))
       (part (other-order k (storeyIn ss i) (membersOf ss ms i) (membersOf ss ns i) (p i)) (storeys-order k (suc i) n last))
 
-  pub sheet-order : OtherOrders (sheet h ss ms) (sheet h ss ns)
+  pub sheet-order : OtherOrders (sheet (surveyOf h ss ms)) (sheet (surveyOf h ss ns))
   unfolding sheet
-  sheet-order = rw verdict-same (storeys-order (h .knowledge) 0 (length ss) (buildingLine (tilted h) (buildingRisky publishedRules h ss ns)))
+  sheet-order = rw verdict-same (storeys-order (h .knowledge) 0 (length ss) (buildingLine (tilted h) (buildingRisky publishedRules (surveyOf h ss ns))))

@@ -12,6 +12,7 @@ use borrow.Kind.Bool.{pBool}
 use borrow.Kind.ShrSlice.{pShrS}
 use borrow.Kind.MutSlice.{pMutS}
 use borrow.Table.Referent.{rtF, fInt}
+use Rattle.records.specs.Records.{surveyOf}
 use Rattle.members.specs.Finding.{knowledge}
 use Rattle.storeys.specs.Storey.{publishedRules, storeyRisky, storeyCallFault}
 use Rattle.storeys.specs.Building.{someRisky}
@@ -57,12 +58,12 @@ put-storey-lines = record {
 abbrev pub put-storeys : Plain {n = 3} (pMutS bytes 0 tt ∷ taken header ∷ pShrS (R storey) 1 tt ∷ pShrS (R member) 2 tt ∷ []) (made printedstoreys)
 put-storeys = record {
   requires = λ κs a.
-      ((recordsFault (a .1 .0) (a .1 .1 .0 .now) (a .1 .1 .1 .0 .now) ≡ 0)
+      ((recordsFault (surveyOf (a .1 .0) (a .1 .1 .0 .now) (a .1 .1 .1 .0 .now)) ≡ 0)
       × (86 * length (a .1 .1 .1 .0 .now) + 74 * length (a .1 .1 .0 .now) ≤ length (a .0 .now)))
       ∷ [];
   ensures = λ κs a z e.
       (z .at ≡ 86 * length (a .1 .1 .1 .0 .now) + 74 * length (a .1 .1 .0 .now))
-      ∷ (z .risky ≡ someRisky publishedRules (a .1 .0) (a .1 .1 .0 .now) (a .1 .1 .1 .0 .now))
+      ∷ (z .risky ≡ someRisky publishedRules (surveyOf (a .1 .0) (a .1 .1 .0 .now) (a .1 .1 .1 .0 .now)))
       ∷ (e .0 .now ≡ stamped (a .0 .now) 0 (storeysLines (a .1 .0 .knowledge) (a .1 .1 .0 .now) (a .1 .1 .1 .0 .now) 0 (length (a .1 .1 .0 .now))))
       ∷ [];
 }
@@ -71,7 +72,7 @@ abbrev pub write-report : Plain {n = 3} (taken header ∷ pShrS (R storey) 0 tt 
 write-report = record {
   requires = λ κs a. [];
   ensures = λ κs a z e.
-      (returnedReport (z .answer) ≡ reportReturned (a .0) (a .1 .0 .now) (a .1 .1 .0 .now) (length (a .1 .1 .1 .0 .now)))
-      ∷ (e .1 .1 .1 .0 .now ≡ bufferAfter (a .0) (a .1 .0 .now) (a .1 .1 .0 .now) (a .1 .1 .1 .0 .now))
+      (returnedReport (z .answer) ≡ reportReturned (surveyOf (a .0) (a .1 .0 .now) (a .1 .1 .0 .now)) (length (a .1 .1 .1 .0 .now)))
+      ∷ (e .1 .1 .1 .0 .now ≡ bufferAfter (surveyOf (a .0) (a .1 .0 .now) (a .1 .1 .0 .now)) (a .1 .1 .1 .0 .now))
       ∷ [];
 }

@@ -7,6 +7,7 @@ use mathlib.Core.List.{List}
 use mathlib.Core.Path.{_≡_, refl, ap, sym, _∙_}
 use lib.ListN.{length, take, drop}
 use borrow.Author.Tests.{eq-eqb}
+use Rattle.records.specs.Records.{surveyOf}
 use Rattle.records.specs.declared.Header.{Header}
 use Rattle.records.specs.declared.Storey.{Storey}
 use Rattle.records.specs.declared.Member.{Member}
@@ -25,7 +26,7 @@ use Rattle.report.specs.Sheet.{storeyLines, storeysLines}
 use Rattle.columns.proofs.Stamps.{stamped-none, stamped-both}
 use Rattle.report.proofs.Rows.{length-storey-lines}
 
-module _ (h : Header) (ss : List Storey) (ms : List Member) (none : recordsFault h ss ms ≡ 0) where
+module _ (h : Header) (ss : List Storey) (ms : List Member) (none : recordsFault (surveyOf h ss ms) ≡ 0) where
   counted : total (λ s. s .count) ss ≡ length ms
   counted = total-counted h ss ms none
 
@@ -106,12 +107,12 @@ module _ (k : ℕ) (ss : List Storey) (ms : List Member) (before : List ℕ) whe
       all-passed : i ≡ length ss
       all-passed = omega (arith, u .within)
 
-      pub end-place : (h : Header) → recordsFault h ss ms ≡ 0 → p .at ≡ 86 * length ms + 74 * length ss
+      pub end-place : (h : Header) → recordsFault (surveyOf h ss ms) ≡ 0 → p .at ≡ 86 * length ms + 74 * length ss
       end-place h none =
           let g : a ≡ length ms = u .start ∙ rw all-passed (before-end h ss ms none) in
           omega (arith, all-passed, g, u .place)
 
-      pub end-risky : (h : Header) → k ≡ h .knowledge → p .risky ≡ someRisky publishedRules h ss ms
+      pub end-risky : (h : Header) → k ≡ h .knowledge → p .risky ≡ someRisky publishedRules (surveyOf h ss ms)
       unfolding someRisky
       end-risky h e = u .risky ∙ rw (all-passed, e)
 

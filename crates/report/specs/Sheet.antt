@@ -1,7 +1,6 @@
--- The printed sheet and the report call (document 01, "The printed sheet", "Refusals as returned"): any header with any rows of storeys and members, and a
--- buffer of any length.
+-- The printed sheet and the report call (document 01, "The printed sheet", "Refusals as returned"): any survey, and a buffer of any length.
 use Rattle.records.specs.Notation.{ℕ, zero, suc, Bool, List, [], _∷_, _++_, leb, eqb, length, drop, pick, inOrder}
-use Rattle.checks.specs.Rows.{Header, Storey, Member, storeyIn, membersOf, recordsFault}
+use Rattle.checks.specs.Rows.{Storey, Member, Survey, storeyIn, membersOf, recordsFault}
 use Rattle.members.specs.{declared.finding.Finding.Finding, Class.code, Finding.finding, Finding.flag, Finding.Returned, Finding.found, Finding.refused}
 use Rattle.storeys.specs.{declared.StoreyFinding.StoreyFinding, Storey.publishedRules, Storey.meetsWallShare, Storey.storeyFinding, Building.tilted, Building.buildingRisky}
 use Rattle.columns.specs.Line.{line}
@@ -39,19 +38,20 @@ storeysLines k ss ms i zero = []
 storeysLines k ss ms i (suc n) = storeyLines k (storeyIn ss i) (membersOf ss ms i) ++ storeysLines k ss ms (suc i) n
 
 -- the printed sheet: the storeys, "Last `B`"
-unfoldable pub sheet : Header → List Storey → List Member → List ℕ
-sheet h ss ms = storeysLines (h .knowledge) ss ms 0 (length ss) ++ buildingLine (tilted h) (buildingRisky publishedRules h ss ms)
+unfoldable pub sheet : Survey → List ℕ
+sheet a =
+    storeysLines (a .header .knowledge) (a .storeys) (a .members) 0 (length (a .storeys)) ++ buildingLine (tilted (a .header)) (buildingRisky publishedRules a)
 
 -- 9, "report longer than its buffer"
 abbrev pub lengthFault : ℕ → ℕ → ℕ
 lengthFault size room = pick (leb size room) 0 9
 
 -- the first refusal of the report call: those of the call on a building, "then 9"
-unfoldable pub reportFault : Header → List Storey → List Member → ℕ → ℕ
-reportFault h ss ms room = inOrder (recordsFault h ss ms ∷ lengthFault (length (sheet h ss ms)) room ∷ [])
+unfoldable pub reportFault : Survey → ℕ → ℕ
+reportFault a room = inOrder (recordsFault a ∷ lengthFault (length (sheet a)) room ∷ [])
 
-unfoldable pub reportAnswer : Header → List Storey → List Member → ℕ → ReportAnswer
-reportAnswer h ss ms room = pick (eqb (reportFault h ss ms room) 0) (Written (length (sheet h ss ms))) (Refused (reportFault h ss ms room))
+unfoldable pub reportAnswer : Survey → ℕ → ReportAnswer
+reportAnswer a room = pick (eqb (reportFault a room) 0) (Written (length (sheet a))) (Refused (reportFault a room))
 
 -- what each case of the answer says: "the report gives its length"
 abbrev pub returnedReport : ReportAnswer → Returned
@@ -59,9 +59,9 @@ returnedReport (Written n) = found (n ∷ [])
 returnedReport (Refused n) = refused n
 
 -- what the paper returns
-abbrev pub reportReturned : Header → List Storey → List Member → ℕ → Returned
-reportReturned h ss ms room = returnedReport (reportAnswer h ss ms room)
+abbrev pub reportReturned : Survey → ℕ → Returned
+reportReturned a room = returnedReport (reportAnswer a room)
 
 -- the buffer afterwards: the sheet "from the front" and the bytes after it unchanged; all of it unchanged by a refusal
-unfoldable pub bufferAfter : Header → List Storey → List Member → List ℕ → List ℕ
-bufferAfter h ss ms before = pick (eqb (reportFault h ss ms (length before)) 0) (sheet h ss ms ++ drop (length (sheet h ss ms)) before) before
+unfoldable pub bufferAfter : Survey → List ℕ → List ℕ
+bufferAfter a before = pick (eqb (reportFault a (length before)) 0) (sheet a ++ drop (length (sheet a)) before) before

@@ -3,6 +3,7 @@ ghost use mathlib.Core.Bool.{true, _||_};
 ghost use mathlib.Core.Path.{_≡_};
 ghost use Prim.Native.Nat.{_+_, _*_, _≤_};
 ghost use lib.ListN.{length};
+ghost use Rattle.records.specs.Records.{surveyOf};
 ghost use Rattle.members.specs.Finding.{knowledge};
 ghost use Rattle.storeys.specs.Storey.{publishedRules, storeyRisky, storeyCallFault};
 ghost use Rattle.storeys.specs.Building.{someRisky};
@@ -71,9 +72,9 @@ fn put_storey_lines(
 
 // The lines of the storeys of an accepted survey, from the front.
 fn put_storeys(out: &mut [u8], h: Header, storeys: &[Storey], members: &[Member]) -> PrintedStoreys
-    requires { ⌜ (recordsFault h (now storeys) (now members) ≡ 0) × (86 * length (now members) + 74 * length (now storeys) ≤ length (now out)) ⌝ }
+    requires { ⌜ (recordsFault (surveyOf h (now storeys) (now members)) ≡ 0) × (86 * length (now members) + 74 * length (now storeys) ≤ length (now out)) ⌝ }
     ensures { λ r. ⌜ r .at ≡ 86 * length (now (members .entry)) + 74 * length (now (storeys .entry)) ⌝ }
-    ensures { λ r. ⌜ r .risky ≡ someRisky publishedRules h (now (storeys .entry)) (now (members .entry)) ⌝ }
+    ensures { λ r. ⌜ r .risky ≡ someRisky publishedRules (surveyOf h (now (storeys .entry)) (now (members .entry))) ⌝ }
     ensures { λ _. ⌜ now (out .exit) ≡ stamped (now (out .entry)) 0 (storeysLines (h .knowledge) (now (storeys .entry)) (now (members .entry)) 0 (length (now (storeys .entry)))) ⌝ }
 {
     let k = level_of(h);
@@ -97,8 +98,8 @@ pub fn write_report(
     members: &[Member],
     out: &mut [u8],
 ) -> ReportJudgment
-    ensures { λ r. ⌜ returnedReport (r .answer) ≡ reportReturned h (now (storeys .entry)) (now (members .entry)) (length (now (out .entry))) ⌝ }
-    ensures { λ _. ⌜ now (out .exit) ≡ bufferAfter h (now (storeys .entry)) (now (members .entry)) (now (out .entry)) ⌝ }
+    ensures { λ r. ⌜ returnedReport (r .answer) ≡ reportReturned (surveyOf h (now (storeys .entry)) (now (members .entry))) (length (now (out .entry))) ⌝ }
+    ensures { λ _. ⌜ now (out .exit) ≡ bufferAfter (surveyOf h (now (storeys .entry)) (now (members .entry))) (now (out .entry)) ⌝ }
 {
     let first = records_fault(h, storeys, members);
     let fault = report_fault(first, storeys.len(), members.len(), out.len());

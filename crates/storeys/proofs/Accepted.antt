@@ -5,7 +5,7 @@ use mathlib.Core.Bool.{true}
 use mathlib.Core.List.{List}
 use mathlib.Core.Path.{_≡_}
 use Rattle.records.specs.Notation.{everyBelow}
-use Rattle.records.specs.Records.{inRange, headerValues, headerFault}
+use Rattle.records.specs.Records.{inRange, headerValues, headerFault, surveyOf}
 use Rattle.records.specs.declared.Header.{Header}
 use Rattle.records.specs.declared.Storey.{Storey}
 use Rattle.records.specs.declared.Member.{Member}
@@ -22,5 +22,5 @@ pub header-known : (h : Header) → headerFault h ≡ 0 → knowledge (h .knowle
 unfolding headerFault
 header-known h e = every-at (inRange B (headerValues h)) 6 0 (clear (everyBelow (inRange B (headerValues h)) 6) _ 3 e (omega arith) .0) (omega arith)
 
-pub known-level : (h : Header) (ss : List Storey) (ms : List Member) → recordsFault h ss ms ≡ 0 → knowledge (h .knowledge) ≡ true
+pub known-level : (h : Header) (ss : List Storey) (ms : List Member) → recordsFault (surveyOf h ss ms) ≡ 0 → knowledge (h .knowledge) ≡ true
 known-level h ss ms none = header-known h (header-good h ss ms none)

@@ -8,6 +8,7 @@ use mathlib.Core.Path.{_≡_, refl, sym, _∙_}
 use lib.Dec.{ltb, eqb}
 use lib.ListN.{length}
 use borrow.Author.Tests.{eq-eqb, ne-eqb, lt-ltb}
+use Rattle.records.specs.Records.{surveyOf}
 use Rattle.records.specs.Notation.{pick, anyBelow, first}
 use Rattle.records.specs.declared.Header.{Header}
 use Rattle.records.specs.declared.Storey.{Storey}
@@ -43,33 +44,33 @@ module _ (p : ℕ → Bool) where
   seen (suc n) = rw (← add-one n) (rw (first-more 0 (λ r. r) (λ i. pick (p i) (i + 1) 0) n) (seen-next (p n) n (place n) refl (seen n)))
 
 module _ (h : Header) (ss : List Storey) (ms : List Member) where
-  refused-by : (n : ℕ) → n ≡ recordsFault h ss ms → (n ≡ 0 → ⊥) → Answers publishedRules h ss ms (Refused n)
+  refused-by : (n : ℕ) → n ≡ recordsFault (surveyOf h ss ms) → (n ≡ 0 → ⊥) → Answers publishedRules (surveyOf h ss ms) (Refused n)
   unfolding buildingAnswerBy
   refused-by n q ne = record { same = rw (← q, ne-eqb n 0 ne); place = tt }
 
-  pub refused : (x : BuildingAnswer) (n : ℕ) → x ≡ Refused n → n ≡ recordsFault h ss ms → (n ≡ 0 → ⊥) → Answers publishedRules h ss ms x
+  pub refused : (x : BuildingAnswer) (n : ℕ) → x ≡ Refused n → n ≡ recordsFault (surveyOf h ss ms) → (n ≡ 0 → ⊥) → Answers publishedRules (surveyOf h ss ms) x
   refused x n e q ne = rw e (refused-by n q ne)
 
-  placed : (x : ℕ) → Seen (riskyAt publishedRules (h .knowledge) ss ms) (length ss) x → (ltb 0 x ≡ someRisky publishedRules h ss ms) × PlaceOk publishedRules h ss ms x
+  placed : (x : ℕ) → Seen (riskyAt publishedRules (h .knowledge) ss ms) (length ss) x → (ltb 0 x ≡ someRisky publishedRules (surveyOf h ss ms)) × PlaceOk publishedRules (surveyOf h ss ms) x
   unfolding someRisky
   placed x (nothing a) = (sym a, nowhere a)
   placed x (first-at i l q) =
       (lt-ltb 0 (i + 1) (omega arith) ∙ sym (any-holds (riskyAt publishedRules (h .knowledge) ss ms) (length ss) i l q), named i l q)
 
-  place-found : (v : Verdict) → v ≡ verdictOf (h .knowledge) ss ms (length ss) → (ltb 0 (v .place) ≡ someRisky publishedRules h ss ms) × PlaceOk publishedRules h ss ms (v .place)
+  place-found : (v : Verdict) → v ≡ verdictOf (h .knowledge) ss ms (length ss) → (ltb 0 (v .place) ≡ someRisky publishedRules (surveyOf h ss ms)) × PlaceOk publishedRules (surveyOf h ss ms) (v .place)
   unfolding verdictOf placeAt
   place-found v e = placed (v .place) (rw e (seen (riskyAt publishedRules (h .knowledge) ss ms) (length ss)))
 
-  judged-by : (v : Verdict) → v ≡ verdictOf (h .knowledge) ss ms (length ss) → recordsFault h ss ms ≡ 0 → Answers publishedRules h ss ms (verdictAnswer h v)
+  judged-by : (v : Verdict) → v ≡ verdictOf (h .knowledge) ss ms (length ss) → recordsFault (surveyOf h ss ms) ≡ 0 → Answers publishedRules (surveyOf h ss ms) (verdictAnswer h v)
   unfolding buildingAnswerBy buildingRisky
-  judged-by v e none = let p = place-found v e in record { same = rw (eq-eqb (recordsFault h ss ms) 0 none, p .0); place = p .1 }
+  judged-by v e none = let p = place-found v e in record { same = rw (eq-eqb (recordsFault (surveyOf h ss ms)) 0 none, p .0); place = p .1 }
 
-  module _ (f : ℕ) (q : f ≡ recordsFault h ss ms) (y : f ≡ 0) (k : ℕ) (l : k ≡ h .knowledge) where
-    none : recordsFault h ss ms ≡ 0
+  module _ (f : ℕ) (q : f ≡ recordsFault (surveyOf h ss ms)) (y : f ≡ 0) (k : ℕ) (l : k ≡ h .knowledge) where
+    none : recordsFault (surveyOf h ss ms) ≡ 0
     none = sym q ∙ y
 
     pub good-rows : GoodRows k ss ms
     good-rows = record { knowledge-level = rw l (known-level h ss ms none); counted = total-counted h ss ms none; good = rows-good h ss ms none }
 
-    pub judged-rows : (v : Verdict) (x : BuildingAnswer) → v ≡ verdictOf k ss ms (length ss) → x ≡ verdictAnswer h v → Answers publishedRules h ss ms x
+    pub judged-rows : (v : Verdict) (x : BuildingAnswer) → v ≡ verdictOf k ss ms (length ss) → x ≡ verdictAnswer h v → Answers publishedRules (surveyOf h ss ms) x
     judged-rows v x p w = rw w (judged-by v (rw (← l) p) none)

@@ -4,6 +4,7 @@ use mathlib.Core.List.{List, [], _∷_}
 use mathlib.Core.Path.{_≡_, refl, ap, sym, _∙_}
 use lib.Dec.{eqb}
 use lib.ListN.{getD}
+use Rattle.records.specs.Records.{surveyOf}
 use Rattle.records.specs.declared.Header.{Header}
 use Rattle.records.specs.declared.Storey.{Storey}
 use Rattle.records.specs.declared.Member.{Member}
@@ -61,5 +62,5 @@ pub building-answer-is : (a b : BuildingAnswer) → returnedBuilding a ≡ retur
 building-answer-is a b e = sym (building-answer-told a) ∙ ap (λ (r : Returned). building-by (r .refusal) (r .values)) e ∙ building-answer-told b
 
 -- the answer of the call on a building, but for its place
-pub answer-same : (rules : Rules) (h : Header) (ss : List Storey) (ms : List Member) (r : BuildingAnswer) → Answers rules h ss ms r → r ≡ buildingAnswerBy rules h ss ms (placeIn r)
-answer-same rules h ss ms r says = building-answer-is r (buildingAnswerBy rules h ss ms (placeIn r)) (says .same)
+pub answer-same : (rules : Rules) (h : Header) (ss : List Storey) (ms : List Member) (r : BuildingAnswer) → Answers rules (surveyOf h ss ms) r → r ≡ buildingAnswerBy rules (surveyOf h ss ms) (placeIn r)
+answer-same rules h ss ms r says = building-answer-is r (buildingAnswerBy rules (surveyOf h ss ms) (placeIn r)) (says .same)

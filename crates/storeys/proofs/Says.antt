@@ -9,7 +9,7 @@ use borrow.Fn.Kinds.{rBool}
 use borrow.Kind.Num.{pNum}
 use borrow.Kind.Bool.{pBool}
 use borrow.Kind.ShrSlice.{pShrS}
-use Rattle.records.specs.Records.{storeyFault}
+use Rattle.records.specs.Records.{storeyFault, surveyOf}
 use Rattle.members.specs.Finding.{knowledge}
 use Rattle.storeys.specs.Storey.{publishedRules, storeyFinding, returnedStorey, storeyReturned}
 use Rattle.storeys.specs.Totals.{wallsSuffice}
@@ -54,5 +54,5 @@ storeys-verdict = record {
 abbrev pub judge-building : Plain {n = 2} (taken header ∷ pShrS (R storey) 0 tt ∷ pShrS (R member) 1 tt ∷ []) (made buildingjudgment)
 judge-building = record {
   requires = λ κs a. [];
-  ensures = λ κs a z e. Answered publishedRules (a .0) (a .1 .0 .now) (a .1 .1 .0 .now) (z .answer) ∷ [];
+  ensures = λ κs a z e. Answered publishedRules (surveyOf (a .0) (a .1 .0 .now) (a .1 .1 .0 .now)) (z .answer) ∷ [];
 }

@@ -1,6 +1,6 @@
--- The judgment of a building (document 01, "Storey and building", "Refusals as returned"): any header with any rows of storeys and members.
+-- The judgment of a building (document 01, "Storey and building", "Refusals as returned"): any survey.
 use Rattle.records.specs.Notation.{ℕ, _+_, _<_, max, Bool, true, false, _||_, List, [], _∷_, _≡_, ltb, eqb, length, pick, anyBelow}
-use Rattle.checks.specs.Rows.{Header, Storey, Member, recordsFault, storeyIn, membersOf}
+use Rattle.checks.specs.Rows.{Header, Storey, Member, Survey, recordsFault, storeyIn, membersOf}
 use Rattle.members.specs.Finding.{flag, Returned, found, refused}
 use Rattle.storeys.specs.Storey.{Rules, storeyRisky}
 use Rattle.storeys.specs.declared.BuildingAnswer.{BuildingAnswer, the-variants.Judged, the-variants.Refused}
@@ -17,32 +17,31 @@ unfoldable pub tilted : Header → Bool
 tilted h = ltb tiltAllowed (max (h .tilt1) (h .tilt2))
 
 -- some storey is Risky
-unfoldable pub someRisky : Rules → Header → List Storey → List Member → Bool
-someRisky rules h ss ms = anyBelow (riskyAt rules (h .knowledge) ss ms) (length ss)
+unfoldable pub someRisky : Rules → Survey → Bool
+someRisky rules a = anyBelow (riskyAt rules (a .header .knowledge) (a .storeys) (a .members)) (length (a .storeys))
 
 -- "A building is Risky when a storey is, or the larger tilt exceeds 25,000"
-unfoldable pub buildingRisky : Rules → Header → List Storey → List Member → Bool
-buildingRisky rules h ss ms = someRisky rules h ss ms || tilted h
+unfoldable pub buildingRisky : Rules → Survey → Bool
+buildingRisky rules a = someRisky rules a || tilted (a .header)
 
 -- the finding, with the place that it names; before it the refusals of the records
-unfoldable pub buildingAnswerBy : Rules → Header → List Storey → List Member → ℕ → BuildingAnswer
-buildingAnswerBy rules h ss ms place =
-    pick (eqb (recordsFault h ss ms) 0) (Judged (record { tilted = tilted h; risky = buildingRisky rules h ss ms; place = place }))
-    (Refused (recordsFault h ss ms))
+unfoldable pub buildingAnswerBy : Rules → Survey → ℕ → BuildingAnswer
+buildingAnswerBy rules a place =
+    pick (eqb (recordsFault a) 0) (Judged (record { tilted = tilted (a .header); risky = buildingRisky rules a; place = place })) (Refused (recordsFault a))
 
 -- "names a Risky storey's place, counted from 1. Which one is free where several are; 0 where none is"
-pub data PlaceOk (rules : Rules) (h : Header) (ss : List Storey) (ms : List Member) : ℕ → Type 0 where
-  nowhere : someRisky rules h ss ms ≡ false → PlaceOk rules h ss ms 0
-  named : (i : ℕ) → i < length ss → riskyAt rules (h .knowledge) ss ms i ≡ true → PlaceOk rules h ss ms (i + 1)
+pub data PlaceOk (rules : Rules) (a : Survey) : ℕ → Type 0 where
+  nowhere : someRisky rules a ≡ false → PlaceOk rules a 0
+  named : (i : ℕ) → i < length (a .storeys) → riskyAt rules (a .header .knowledge) (a .storeys) (a .members) i ≡ true → PlaceOk rules a (i + 1)
 
 -- the place that an answer names; a refusal names none
 abbrev pub placeIn : BuildingAnswer → ℕ
 placeIn (Judged f) = f .place
 placeIn (Refused n) = 0
 
-abbrev pub PlaceInOk : Rules → Header → List Storey → List Member → BuildingAnswer → Type 0
-PlaceInOk rules h ss ms (Judged f) = PlaceOk rules h ss ms (f .place)
-PlaceInOk rules h ss ms (Refused n) = Unit
+abbrev pub PlaceInOk : Rules → Survey → BuildingAnswer → Type 0
+PlaceInOk rules a (Judged f) = PlaceOk rules a (f .place)
+PlaceInOk rules a (Refused n) = Unit
 
 -- what each case of the answer says: the values of a printed building, and the place
 abbrev pub returnedBuilding : BuildingAnswer → Returned
@@ -50,6 +49,6 @@ returnedBuilding (Judged f) = found (flag (f .tilted) ∷ flag (f .risky) ∷ f 
 returnedBuilding (Refused n) = refused n
 
 -- what the call on a building answers: all but the place is equated
-pub record Answers (rules : Rules) (h : Header) (ss : List Storey) (ms : List Member) (r : BuildingAnswer) : Type 0 where
-  pub same : returnedBuilding r ≡ returnedBuilding (buildingAnswerBy rules h ss ms (placeIn r))
-  pub place : PlaceInOk rules h ss ms r
+pub record Answers (rules : Rules) (a : Survey) (r : BuildingAnswer) : Type 0 where
+  pub same : returnedBuilding r ≡ returnedBuilding (buildingAnswerBy rules a (placeIn r))
+  pub place : PlaceInOk rules a r

@@ -1,6 +1,7 @@
 // The call on a building, over lent rows of storeys and members. Whole records are moved here; whatever looks into one is in `row` and `verdict`.
 ghost use mathlib.Core.Path.{_≡_};
 ghost use lib.ListN.{length};
+ghost use Rattle.records.specs.Records.{surveyOf};
 ghost use Rattle.storeys.specs.Storey.{publishedRules};
 ghost use Rattle.storeys.specs.Building.{Answers};
 ghost use Rattle.storeys.specs.Verdict.{verdictOf, GoodRows};
@@ -40,7 +41,7 @@ fn storeys_verdict(k: u64, storeys: &[Storey], members: &[Member]) -> Verdict
 
 // The call on a building: its header, its storeys, and the members of all of them in survey order.
 pub fn judge_building(h: Header, storeys: &[Storey], members: &[Member]) -> BuildingJudgment
-    ensures { λ r. ⌜ Answers publishedRules h (now (storeys .entry)) (now (members .entry)) (r .answer) ⌝ }
+    ensures { λ r. ⌜ Answers publishedRules (surveyOf h (now (storeys .entry)) (now (members .entry))) (r .answer) ⌝ }
 {
     let fault = records_fault(h, storeys, members);
     if fault != 0 {

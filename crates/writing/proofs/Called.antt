@@ -8,7 +8,7 @@ use lib.Dec.{leb, eqb}
 use lib.ListN.{length, length-append}
 use borrow.Author.Tests.{eq-eqb, ne-eqb, le-leb, lt-leb, eqb-true, leb-true}
 use Rattle.format.specs.Lines.{lineSize}
-use Rattle.records.specs.Records.{headerValues}
+use Rattle.records.specs.Records.{headerValues, surveyOf}
 use Rattle.records.specs.declared.Header.{Header}
 use Rattle.records.specs.declared.Storey.{Storey}
 use Rattle.records.specs.declared.Member.{Member}
@@ -41,58 +41,58 @@ module _ (fault storeys members room : ℕ) where
   fault-eleven e h = rw (eq-eqb fault 0 e, lt-leb (fileSize storeys members) room h)
 
 -- ---- the file's length
-pub length-file : (h : Header) (ss : List Storey) (ms : List Member) → recordsFault h ss ms ≡ 0 → length (fileText h ss ms) ≡ fileSize (length ss) (length ms)
+pub length-file : (h : Header) (ss : List Storey) (ms : List Member) → recordsFault (surveyOf h ss ms) ≡ 0 → length (fileText (surveyOf h ss ms)) ≡ fileSize (length ss) (length ms)
 unfolding fileText
 length-file h ss ms none =
     omega (arith, length-append (lineText B (headerValues h)) (storeysText ss ms), length-line B (headerValues h), length-storeys ss ms (total-counted h ss ms none))
 
 -- ---- the first refusal
-module _ (h : Header) (ss : List Storey) (ms : List Member) (r : ℕ) (says : r ≡ recordsFault h ss ms) where
+module _ (h : Header) (ss : List Storey) (ms : List Member) (r : ℕ) (says : r ≡ recordsFault (surveyOf h ss ms)) where
   pub few : FewRows r (length ss) (length ms)
   few z = let none = sym says ∙ z in (storeys-most h ss ms none, members-most h ss ms none)
 
-  fault-by : (t : Bool) (room : ℕ) → eqb (recordsFault h ss ms) 0 ≡ t → fileFaultBy (recordsFault h ss ms) (length ss) (length ms) room ≡ fileFault h ss ms room
+  fault-by : (t : Bool) (room : ℕ) → eqb (recordsFault (surveyOf h ss ms)) 0 ≡ t → fileFaultBy (recordsFault (surveyOf h ss ms)) (length ss) (length ms) room ≡ fileFault (surveyOf h ss ms) room
   unfolding fileFault
-  fault-by true room e = rw (e, length-file h ss ms (eqb-true (recordsFault h ss ms) 0 e)) (sym (last-of (fileLengthFault (fileSize (length ss) (length ms)) room)))
+  fault-by true room e = rw (e, length-file h ss ms (eqb-true (recordsFault (surveyOf h ss ms)) 0 e)) (sym (last-of (fileLengthFault (fileSize (length ss) (length ms)) room)))
   fault-by false room e = rw e
 
-  pub fault-is : (z room : ℕ) → z ≡ fileFaultBy r (length ss) (length ms) room → z ≡ fileFault h ss ms room
-  fault-is z room e = e ∙ ap (λ (n : ℕ). fileFaultBy n (length ss) (length ms) room) says ∙ fault-by (eqb (recordsFault h ss ms) 0) room refl
+  pub fault-is : (z room : ℕ) → z ≡ fileFaultBy r (length ss) (length ms) room → z ≡ fileFault (surveyOf h ss ms) room
+  fault-is z room e = e ∙ ap (λ (n : ℕ). fileFaultBy n (length ss) (length ms) room) says ∙ fault-by (eqb (recordsFault (surveyOf h ss ms)) 0) room refl
 
-module _ (h : Header) (ss : List Storey) (ms : List Member) (before : List ℕ) (z : ℕ) (e : z ≡ fileFault h ss ms (length before)) where
+module _ (h : Header) (ss : List Storey) (ms : List Member) (before : List ℕ) (z : ℕ) (e : z ≡ fileFault (surveyOf h ss ms) (length before)) where
   -- ---- a refusal
   module _ (ne : z ≡ 0 → ⊥) where
-    pub answer-refused : (r : WriteAnswer) → r ≡ Refused z → returnedFile r ≡ fileReturned h ss ms (length before)
+    pub answer-refused : (r : WriteAnswer) → r ≡ Refused z → returnedFile r ≡ fileReturned (surveyOf h ss ms) (length before)
     unfolding fileAnswer
     answer-refused r q = ap returnedFile q ∙ rw (← e) (simp (ne-eqb z 0 ne))
 
-    pub buffer-refused : before ≡ fileAfter h ss ms before
+    pub buffer-refused : before ≡ fileAfter (surveyOf h ss ms) before
     unfolding fileAfter
     buffer-refused = rw (← e) (simp (ne-eqb z 0 ne))
 
   -- ---- the file
   module _ (zero-fault : z ≡ 0) where
-    none-of-both : None (recordsFault h ss ms ∷ fileLengthFault (length (fileText h ss ms)) (length before) ∷ [])
+    none-of-both : None (recordsFault (surveyOf h ss ms) ∷ fileLengthFault (length (fileText (surveyOf h ss ms))) (length before) ∷ [])
     unfolding fileFault
     none-of-both = in-order-clear _ (sym e ∙ zero-fault)
 
-    pub records-clear : recordsFault h ss ms ≡ 0
+    pub records-clear : recordsFault (surveyOf h ss ms) ≡ 0
     records-clear = one none-of-both
 
-    file-fits : length (fileText h ss ms) ≤ length before
-    file-fits = leb-true (length (fileText h ss ms)) (length before) (clear (leb (length (fileText h ss ms)) (length before)) 0 11 (one (rest none-of-both)) (omega arith) .0)
+    file-fits : length (fileText (surveyOf h ss ms)) ≤ length before
+    file-fits = leb-true (length (fileText (surveyOf h ss ms))) (length before) (clear (leb (length (fileText (surveyOf h ss ms))) (length before)) 0 11 (one (rest none-of-both)) (omega arith) .0)
 
     pub room-enough : fileSize (length ss) (length ms) ≤ length before
     room-enough = omega (arith, file-fits, length-file h ss ms records-clear)
 
-    pub answer-written : (r : WriteAnswer) (n : ℕ) → r ≡ Written n → n ≡ fileSize (length ss) (length ms) → returnedFile r ≡ fileReturned h ss ms (length before)
+    pub answer-written : (r : WriteAnswer) (n : ℕ) → r ≡ Written n → n ≡ fileSize (length ss) (length ms) → returnedFile r ≡ fileReturned (surveyOf h ss ms) (length before)
     unfolding fileAnswer
     answer-written r n q l = ap returnedFile q ∙ rw (← e, eq-eqb z 0 zero-fault, length-file h ss ms records-clear, l)
 
-    pub buffer-written : (filled ended : List ℕ) (p : ℕ) → filled ≡ stamped before 0 (lineText B (headerValues h)) → p ≡ lineSize B → ended ≡ stamped filled p (storeysText ss ms) → ended ≡ fileAfter h ss ms before
+    pub buffer-written : (filled ended : List ℕ) (p : ℕ) → filled ≡ stamped before 0 (lineText B (headerValues h)) → p ≡ lineSize B → ended ≡ stamped filled p (storeysText ss ms) → ended ≡ fileAfter (surveyOf h ss ms) before
     unfolding fileAfter fileText
     buffer-written filled ended p f l q =
         q
         ∙ rw (f, ← e, eq-eqb z 0 zero-fault)
         (stamped-both (lineText B (headerValues h)) (storeysText ss ms) before 0 p (omega (arith, l, length-line B (headerValues h)))
-        ∙ stamped-front (fileText h ss ms) before file-fits)
+        ∙ stamped-front (fileText (surveyOf h ss ms)) before file-fits)

@@ -9,7 +9,7 @@ use lib.Seq.{drop-cons, drop-drop, drop-at, take-suc, take-add, take-all, take-l
 use borrow.Author.Tests.{lt-ltb, le-ltb, eq-eqb}
 use Rattle.records.specs.Blank.{noStorey, noMember}
 use Rattle.records.specs.Notation.{inOrder, listed}
-use Rattle.records.specs.Records.{headerValues, storeyValues, memberValues, storeyFault, memberFault, repeated}
+use Rattle.records.specs.Records.{headerValues, storeyValues, memberValues, storeyFault, memberFault, repeated, surveyOf}
 use Rattle.records.specs.declared.Header.{Header}
 use Rattle.records.specs.declared.Storey.{Storey}
 use Rattle.records.specs.declared.Member.{Member}
@@ -58,7 +58,7 @@ held-none : (k rows : ℕ) → k < rows → unheld k rows ≡ 0
 held-none k rows l = rw (lt-ltb k rows l)
 
 -- ---- the lines of a written file
-module _ (s : List ℕ) (h : Header) (ss : List Storey) (ms : List Member) (f : s ≡ fileText h ss ms) (none : recordsFault h ss ms ≡ 0) where
+module _ (s : List ℕ) (h : Header) (ss : List Storey) (ms : List Member) (f : s ≡ fileText (surveyOf h ss ms)) (none : recordsFault (surveyOf h ss ms) ≡ 0) where
   header-is : Clean B s 0 × (h ≡ headerAt s 0)
   unfolding fileText
   header-is = header-typed s 0 (storeysText ss ms) h (header-good h ss ms none) f
@@ -216,7 +216,7 @@ module _ (s : List ℕ) (h : Header) (ss : List Storey) (ms : List Member) (f : 
     all-members : firstMembers s (length ss) ≡ ms
     all-members = members-are (length ss) (le-refl _) ∙ rw (before-end h ss ms none) (take-length ms)
 
-    pub read-is : survey s srows mrows ≡ accepted h ss ms
+    pub read-is : survey s srows mrows ≡ accepted (surveyOf h ss ms)
     unfolding survey
     read-is =
         let p : listed (storey s) (headerAt s 0 .count) ≡ ss = rw count-is storeys-are in

@@ -8,7 +8,7 @@ use lib.Dec.{eqb}
 use lib.ListN.{length, drop, length-drop, drop-of-length-le}
 use lib.Seq.{take-all, take-append-le, drop-append-le}
 use borrow.Author.Tests.{eqb-true}
-use Rattle.records.specs.Records.{storeyValues, memberValues}
+use Rattle.records.specs.Records.{storeyValues, memberValues, Survey, surveyOf}
 use Rattle.format.specs.Lines.{lineSize, headerAt}
 use Rattle.reading.specs.Survey.{lineStart, membersBefore, storey, memberStart, member, surveyFault, firstMembers, accepted, survey}
 use Rattle.records.specs.Notation.{listed, total}
@@ -65,15 +65,15 @@ module _ (s : List ℕ) (srows mrows : ℕ) (z : surveyFault s srows mrows .numb
       )
       (simp append-assoc)
 
-  file-text : s ≡ fileText (headerAt s 0) (listed (storey s) (headerAt s 0 .count)) (firstMembers s (headerAt s 0 .count))
+  file-text : s ≡ fileText (surveyOf (headerAt s 0) (listed (storey s) (headerAt s 0 .count)) (firstMembers s (headerAt s 0 .count)))
   unfolding fileText
   file-text =
       header-text s 0 (header-clean s srows mrows z)
       ∙ rw (storeys-text (headerAt s 0 .count) (le-refl _), drop-of-length-le s (nothing-after s srows mrows z)) (simp append-nil)
 
 -- writing what was read gives the bytes
-pub resent : (s : List ℕ) (srows mrows : ℕ) (h : Header) (ss : List Storey) (ms : List Member) → survey s srows mrows ≡ accepted h ss ms → s ≡ fileText h ss ms
+pub resent : (s : List ℕ) (srows mrows : ℕ) (a : Survey) → survey s srows mrows ≡ accepted a → s ≡ fileText a
 unfolding survey
-resent s srows mrows h ss ms e =
-    let a = of-accepted (eqb (surveyFault s srows mrows .number) 0) _ h _ ss _ ms _ _ e in
-    rw (a .3, a .2, a .1) at (file-text s srows mrows (eqb-true _ 0 (a .0)))
+resent s srows mrows a e =
+    let q = of-accepted (eqb (surveyFault s srows mrows .number) 0) _ a _ _ e in
+    rw (q .1) at (file-text s srows mrows (eqb-true _ 0 (q .0)))

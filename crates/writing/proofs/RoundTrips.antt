@@ -5,9 +5,7 @@ use mathlib.Core.Path.{_≡_, refl, _∙_}
 use lib.ListN.{length, take, drop}
 use lib.Seq.{take-append-seam}
 use borrow.Author.Tests.{le-leb, eq-eqb}
-use Rattle.records.specs.declared.Header.{Header}
-use Rattle.records.specs.declared.Storey.{Storey}
-use Rattle.records.specs.declared.Member.{Member}
+use Rattle.records.specs.Records.{Survey}
 use Rattle.checks.specs.Rows.{recordsFault}
 use Rattle.reading.proofs.Passed.{accepted-pass}
 use Rattle.writing.specs.File.{fileText}
@@ -17,29 +15,29 @@ use Rattle.writing.proofs.Resent.{resent}
 use Rattle.writing.proofs.Reread.{read-is}
 
 -- ---- good records that the buffer holds
-module _ (h : Header) (ss : List Storey) (ms : List Member) (before : List ℕ) (none : recordsFault h ss ms ≡ 0) (fits : length (fileText h ss ms) ≤ length before) where
-  clear : fileFault h ss ms (length before) ≡ 0
+module _ (a : Survey) (before : List ℕ) (none : recordsFault a ≡ 0) (fits : length (fileText a) ≤ length before) where
+  clear : fileFault a (length before) ≡ 0
   unfolding fileFault
-  clear = rw (none, le-leb (length (fileText h ss ms)) (length before) fits)
+  clear = rw (none, le-leb (length (fileText a)) (length before) fits)
 
-  put : fileAfter h ss ms before ≡ fileText h ss ms ++ drop (length (fileText h ss ms)) before
+  put : fileAfter a before ≡ fileText a ++ drop (length (fileText a)) before
   unfolding fileAfter
   put = rw (eq-eqb _ _ clear)
 
-  filled : take (length (fileText h ss ms)) (fileAfter h ss ms before) ≡ fileText h ss ms
-  filled = rw put (take-append-seam (fileText h ss ms) (drop (length (fileText h ss ms)) before))
+  filled : take (length (fileText a)) (fileAfter a before) ≡ fileText a
+  filled = rw put (take-append-seam (fileText a) (drop (length (fileText a)) before))
 
-  gives : fileReturned h ss ms (length before) ≡ written (length (fileText h ss ms))
+  gives : fileReturned a (length before) ≡ written (length (fileText a))
   unfolding fileAnswer
   gives = rw (eq-eqb _ _ clear)
 
 pub read-back : ReadBack
-read-back h ss ms before srows mrows none fits a b =
-    (gives h ss ms before none fits, rw (filled h ss ms before none fits) (read-is (fileText h ss ms) h ss ms refl none srows mrows a b))
+read-back a before srows mrows none fits hs hm =
+    (gives a before none fits, rw (filled a before none fits) (read-is (fileText a) (a .header) (a .storeys) (a .members) refl none srows mrows hs hm))
 
 pub written-back : WrittenBack
-written-back s srows mrows h ss ms before e fits =
-    let q = resent s srows mrows h ss ms e in
-    let none = accepted-pass s srows mrows h ss ms e in
-    let room : length (fileText h ss ms) ≤ length before = rw q at fits in
-    (gives h ss ms before none room ∙ rw (← q), put h ss ms before none room ∙ rw (← q))
+written-back s srows mrows a before e fits =
+    let q = resent s srows mrows a e in
+    let none = accepted-pass s srows mrows a e in
+    let room : length (fileText a) ≤ length before = rw q at fits in
+    (gives a before none room ∙ rw (← q), put a before none room ∙ rw (← q))

@@ -11,6 +11,7 @@ use borrow.Kind.Num.{pNum}
 use borrow.Kind.ShrSlice.{pShrS}
 use borrow.Kind.MutSlice.{pMutS}
 use borrow.Table.Referent.{rtF, fInt}
+use Rattle.records.specs.Records.{surveyOf}
 use Rattle.records.specs.declared.Tag.the-variants as tag
 use Rattle.format.specs.Lines.{lineSize}
 use Rattle.checks.specs.RowChecks.{Counted}
@@ -60,7 +61,7 @@ abbrev pub write-file : Plain {n = 3} (taken header ∷ pShrS (R storey) 0 tt �
 write-file = record {
   requires = λ κs a. [];
   ensures = λ κs a z e.
-      (returnedFile (z .answer) ≡ fileReturned (a .0) (a .1 .0 .now) (a .1 .1 .0 .now) (length (a .1 .1 .1 .0 .now)))
-      ∷ (e .1 .1 .1 .0 .now ≡ fileAfter (a .0) (a .1 .0 .now) (a .1 .1 .0 .now) (a .1 .1 .1 .0 .now))
+      (returnedFile (z .answer) ≡ fileReturned (surveyOf (a .0) (a .1 .0 .now) (a .1 .1 .0 .now)) (length (a .1 .1 .1 .0 .now)))
+      ∷ (e .1 .1 .1 .0 .now ≡ fileAfter (surveyOf (a .0) (a .1 .0 .now) (a .1 .1 .0 .now)) (a .1 .1 .1 .0 .now))
       ∷ [];
 }

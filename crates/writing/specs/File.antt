@@ -2,7 +2,7 @@
 use Rattle.records.specs.Notation.{ℕ, List, [], _∷_, _++_, take, drop}
 use Rattle.records.specs.declared.Tag.the-variants.{B, S, M}
 use Rattle.records.specs.Records.{headerValues, storeyValues, memberValues}
-use Rattle.checks.specs.Rows.{Header, Storey, Member}
+use Rattle.checks.specs.Rows.{Storey, Member, Survey}
 use Rattle.format.specs.Text.{lineText}
 
 -- the M lines of some members
@@ -20,5 +20,5 @@ storeysText [] ms = []
 storeysText (st ∷ ss) ms = storeyText st (take (st .count) ms) ++ storeysText ss (drop (st .count) ms)
 
 -- "one B, then each S followed by its M lines, then nothing"
-unfoldable pub fileText : Header → List Storey → List Member → List ℕ
-fileText h ss ms = lineText B (headerValues h) ++ storeysText ss ms
+unfoldable pub fileText : Survey → List ℕ
+fileText a = lineText B (headerValues (a .header)) ++ storeysText (a .storeys) (a .members)

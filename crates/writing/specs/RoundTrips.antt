@@ -1,6 +1,6 @@
 -- The two round trips (document 02, N1), of the definitions that the calls of reading and writing promise.
 use Rattle.records.specs.Notation.{ℕ, _≤_, List, [], _∷_, _++_, _≡_, length, take, drop}
-use Rattle.checks.specs.Rows.{Header, Storey, Member, recordsFault}
+use Rattle.checks.specs.Rows.{Survey, recordsFault}
 use Rattle.members.specs.Finding.{Returned, found}
 use Rattle.reading.specs.Survey.{accepted, survey}
 use Rattle.writing.specs.File.{fileText}
@@ -14,12 +14,12 @@ written n = found (n ∷ [])
 -- the file, the call gives its length, and these bytes are read, into any rows that hold the records, as the same records
 abbrev pub ReadBack : Type 0
 ReadBack =
-    (h : Header) (ss : List Storey) (ms : List Member) (before : List ℕ) (srows mrows : ℕ) → recordsFault h ss ms ≡ 0 → length (fileText h ss ms) ≤ length before
-    → length ss ≤ srows → length ms ≤ mrows
-    → (fileReturned h ss ms (length before) ≡ written (length (fileText h ss ms))) × (survey (take (length (fileText h ss ms)) (fileAfter h ss ms before)) srows mrows ≡ accepted h ss ms)
+    (a : Survey) (before : List ℕ) (srows mrows : ℕ) → recordsFault a ≡ 0 → length (fileText a) ≤ length before
+    → length (a .storeys) ≤ srows → length (a .members) ≤ mrows
+    → (fileReturned a (length before) ≡ written (length (fileText a))) × (survey (take (length (fileText a)) (fileAfter a before)) srows mrows ≡ accepted a)
 
 -- "For an accepted file, writing what was read gives the same bytes": whatever rows it was read into, in every buffer that holds it, the call gives the file's length and puts its bytes
 abbrev pub WrittenBack : Type 0
 WrittenBack =
-    (s : List ℕ) (srows mrows : ℕ) (h : Header) (ss : List Storey) (ms : List Member) (before : List ℕ) → survey s srows mrows ≡ accepted h ss ms → length s ≤ length before
-    → (fileReturned h ss ms (length before) ≡ written (length s)) × (fileAfter h ss ms before ≡ s ++ drop (length s) before)
+    (s : List ℕ) (srows mrows : ℕ) (a : Survey) (before : List ℕ) → survey s srows mrows ≡ accepted a → length s ≤ length before
+    → (fileReturned a (length before) ≡ written (length s)) × (fileAfter a before ≡ s ++ drop (length s) before)

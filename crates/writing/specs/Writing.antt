@@ -1,6 +1,6 @@
--- The writing call (document 02, N1): any header with any rows of storeys and members, and a buffer of any length.
+-- The writing call (document 02, N1): any survey, and a buffer of any length.
 use Rattle.records.specs.Notation.{ℕ, List, [], _∷_, _++_, leb, eqb, length, drop, pick, inOrder}
-use Rattle.checks.specs.Rows.{Header, Storey, Member, recordsFault}
+use Rattle.checks.specs.Rows.{Survey, recordsFault}
 use Rattle.members.specs.Finding.{Returned, found, refused}
 use Rattle.writing.specs.declared.WriteAnswer.{WriteAnswer, the-variants.Written, the-variants.Refused}
 use Rattle.writing.specs.File.{fileText}
@@ -10,11 +10,11 @@ abbrev pub fileLengthFault : ℕ → ℕ → ℕ
 fileLengthFault size room = pick (leb size room) 0 11
 
 -- the first refusal: "the checks that judging makes, with those same numbers first", and 11 "tested last"
-unfoldable pub fileFault : Header → List Storey → List Member → ℕ → ℕ
-fileFault h ss ms room = inOrder (recordsFault h ss ms ∷ fileLengthFault (length (fileText h ss ms)) room ∷ [])
+unfoldable pub fileFault : Survey → ℕ → ℕ
+fileFault a room = inOrder (recordsFault a ∷ fileLengthFault (length (fileText a)) room ∷ [])
 
-unfoldable pub fileAnswer : Header → List Storey → List Member → ℕ → WriteAnswer
-fileAnswer h ss ms room = pick (eqb (fileFault h ss ms room) 0) (Written (length (fileText h ss ms))) (Refused (fileFault h ss ms room))
+unfoldable pub fileAnswer : Survey → ℕ → WriteAnswer
+fileAnswer a room = pick (eqb (fileFault a room) 0) (Written (length (fileText a))) (Refused (fileFault a room))
 
 -- what each case of the answer says: "give its length"
 abbrev pub returnedFile : WriteAnswer → Returned
@@ -22,9 +22,9 @@ returnedFile (Written n) = found (n ∷ [])
 returnedFile (Refused n) = refused n
 
 -- what the paper returns
-abbrev pub fileReturned : Header → List Storey → List Member → ℕ → Returned
-fileReturned h ss ms room = returnedFile (fileAnswer h ss ms room)
+abbrev pub fileReturned : Survey → ℕ → Returned
+fileReturned a room = returnedFile (fileAnswer a room)
 
 -- the buffer afterwards: the file from the front and the bytes after it unchanged; all of it unchanged by a refusal
-unfoldable pub fileAfter : Header → List Storey → List Member → List ℕ → List ℕ
-fileAfter h ss ms before = pick (eqb (fileFault h ss ms (length before)) 0) (fileText h ss ms ++ drop (length (fileText h ss ms)) before) before
+unfoldable pub fileAfter : Survey → List ℕ → List ℕ
+fileAfter a before = pick (eqb (fileFault a (length before)) 0) (fileText a ++ drop (length (fileText a)) before) before

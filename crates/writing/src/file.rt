@@ -2,6 +2,7 @@
 ghost use mathlib.Core.Path.{_≡_};
 ghost use Prim.Native.Nat.{_+_, _*_, _≤_};
 ghost use lib.ListN.{length};
+ghost use Rattle.records.specs.Records.{surveyOf};
 ghost use Rattle.records.specs.declared.Tag.the-variants.{S, M};
 ghost use Rattle.format.specs.Lines.{lineSize};
 ghost use Rattle.columns.specs.Bytes.{stamped};
@@ -67,8 +68,8 @@ fn put_storeys(out: &mut [u8], at: usize, storeys: &[Storey], members: &[Member]
 
 // The writing call: the file of good records, from the front of the lent bytes.
 pub fn write_file(h: Header, storeys: &[Storey], members: &[Member], out: &mut [u8]) -> Writing
-    ensures { λ r. ⌜ returnedFile (r .answer) ≡ fileReturned h (now (storeys .entry)) (now (members .entry)) (length (now (out .entry))) ⌝ }
-    ensures { λ _. ⌜ now (out .exit) ≡ fileAfter h (now (storeys .entry)) (now (members .entry)) (now (out .entry)) ⌝ }
+    ensures { λ r. ⌜ returnedFile (r .answer) ≡ fileReturned (surveyOf h (now (storeys .entry)) (now (members .entry))) (length (now (out .entry))) ⌝ }
+    ensures { λ _. ⌜ now (out .exit) ≡ fileAfter (surveyOf h (now (storeys .entry)) (now (members .entry))) (now (out .entry)) ⌝ }
 {
     let records = records_fault(h, storeys, members);
     let fault = file_fault(records, storeys.len(), members.len(), out.len());

@@ -12,6 +12,7 @@ use borrow.Rule.Slice.Mut.{msleft}
 use borrow.Rule.Slice.Relend.{asMut, msptr, mslice-owed}
 use borrow.Table.Row.{Cx, lease, off, alive, dead, sBool}
 use borrow.Table.Rows.{sc-here}
+use Rattle.records.specs.Records.{surveyOf}
 use Rattle.walk.proofs.Walk.{S, _⨾_, _▸_, at, slot, from, set, op2, lit, cp, fld, sc, gone, old, forget, when, ret, same, u64}
 use Rattle.walk.proofs.Slice.{R, kept, full, here, mut-len, val-at, sh-at, sh-spares, sh-reads, mut-at, mut-is, mut-reads, slice, lend-on, back-on, owed-len}
 use Rattle.walk.proofs.Array.{begin, end, over}
@@ -108,7 +109,7 @@ answers κs qs a good pre bs = (
               refl,
               λ back. (
                 (refl, (refl, (refl, (fix-len (a .1 .1 .1 .0 .ptr) (a .1 .1 .1 .0 .name) (p .2 .0) (a .1 .1 .1 .0 .now) back, tt)))),
-                room (ltb-false (length (a .1 .1 .1 .0 .now)) 3 miss) (g .1 .answer) (subst (λ (x : Header). Answered publishedRules x (a .1 .0 .now) (a .1 .1 .0 .now) (g .1 .answer)) (s .5) (g .5)) (p .5 .0) (p .5 .1),
+                room (ltb-false (length (a .1 .1 .1 .0 .now)) 3 miss) (g .1 .answer) (subst (λ (x : Header). Answered publishedRules (surveyOf x (a .1 .0 .now) (a .1 .1 .0 .now)) (g .1 .answer)) (s .5) (g .5)) (p .5 .0) (p .5 .1),
               ),
             ),
           ),

@@ -22,7 +22,7 @@ use Rattle.records.specs.declared.Header.{Header}
 use Rattle.records.proofs.Structs.{header, member, storey}
 use Rattle.members.specs.Finding.{Returned}
 use Rattle.writing.specs.Writing.{fileReturned, fileAfter}
-use Rattle.records.specs.Records.{headerBy}
+use Rattle.records.specs.Records.{headerBy, surveyOf}
 use Rattle.words.specs.Words.{handed, packed}
 use Rattle.exports.specs.Calls.{fileCount}
 use Rattle.exports.proofs.Room.{with-room, no-room, put, not-put}
@@ -120,8 +120,8 @@ answers κs qs a good pre bs =
     let h : Header = headerBy (handed (a .0 .now)) in
     let out : List ℕ = a .1 .1 .1 .1 .0 .now in
     let sheet : List ℕ = a .1 .1 .1 .0 .now in
-    let found : Returned = fileReturned h (a .1 .0 .now) (a .1 .1 .0 .now) (length sheet) in
-    let after : List ℕ = fileAfter h (a .1 .0 .now) (a .1 .1 .0 .now) sheet in (
+    let found : Returned = fileReturned (surveyOf h (a .1 .0 .now) (a .1 .1 .0 .now)) (length sheet) in
+    let after : List ℕ = fileAfter (surveyOf h (a .1 .0 .now) (a .1 .1 .0 .now)) sheet in (
       tt,
       (
         λ hit. told (ltb-true (length out) 1 hit) λ short. told (not-put fileCount found out short) λ n. ((refl, (refl, (refl, (refl, (refl, tt))))), (n .0, (n .1, sym (no-room fileCount out after sheet short)))),
@@ -142,10 +142,10 @@ answers κs qs a good pre bs =
                       λ last. (
                         (refl, (refl, (refl, (fix-len (a .1 .1 .1 .0 .ptr) (a .1 .1 .1 .0 .name) (r .2 .1 .1 .1 .0) sheet back, (fix-len (a .1 .1 .1 .1 .0 .ptr) (a .1 .1 .1 .1 .0 .name) (p .2 .0) out last, tt))))),
                         told (ltb-false (length out) 1 miss) λ room.
-                            told (r .5 .0 ∙ ap (λ (x : Header). fileReturned x (a .1 .0 .now) (a .1 .1 .0 .now) (length sheet)) (h .5)) λ e.
+                            told (r .5 .0 ∙ ap (λ (x : Header). fileReturned (surveyOf x (a .1 .0 .now) (a .1 .1 .0 .now)) (length sheet)) (h .5)) λ e.
                             told (put fileCount found out room (p .5 .0 ∙ ap packed e) (p .5 .1 ∙ ap (λ (t : Returned). atFront (t .values) out) e)) λ n. (
                               n .0,
-                              (n .1, r .5 .1 ∙ ap (λ (x : Header). fileAfter x (a .1 .0 .now) (a .1 .1 .0 .now) sheet) (h .5) ∙ sym (with-room fileCount out after sheet room)),
+                              (n .1, r .5 .1 ∙ ap (λ (x : Header). fileAfter (surveyOf x (a .1 .0 .now) (a .1 .1 .0 .now)) sheet) (h .5) ∙ sym (with-room fileCount out after sheet room)),
                             ),
                       ),
                     ),
