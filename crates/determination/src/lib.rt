@@ -29,7 +29,9 @@ pub const STOREY_ROWS: usize = 10;
 pub const MEMBER_ROWS: usize = 320;
 
 // The longest sheet of these rows.
-pub const SHEET_MOST: usize = MEMBER_LINE_SIZE * MEMBER_ROWS + STOREY_LINE_SIZE * STOREY_ROWS + BUILDING_LINE_SIZE;
+pub const SHEET_MOST: usize = MEMBER_LINE_SIZE * MEMBER_ROWS
+    + STOREY_LINE_SIZE * STOREY_ROWS
+    + BUILDING_LINE_SIZE;
 
 // An input that is not too long: a refused one has a blank header and no rows, of which the report call writes nothing.
 fn determine_file(input: &[u8], out: &mut [u8]) -> usize
