@@ -1,5 +1,5 @@
--- A sheet of the rows that are lent fits in 28,286 bytes: 86 for each of 320 members, 74 for each of 10 storeys, 26 for the building. With a buffer of that
--- length `determine` never prints `E` with 9.
+-- A sheet of the rows that are lent has at most `sheetMost` bytes. With a buffer of that length
+-- `determine` never prints `E` with 9.
 use Prim.Native.Nat.{ℕ, _≤_}
 use native.Mathlib.Omega.{arith}
 use mathlib.Core.Bool.{Bool, true, false}
@@ -18,7 +18,7 @@ use Rattle.storeys.specs.Storey.{publishedRules}
 use Rattle.storeys.specs.Building.{}
 use Rattle.report.specs.Sheet.{sheet, reportFault}
 use Rattle.report.proofs.Called.{length-sheet}
-use Rattle.determination.specs.Determination.{storeyRows, memberRows}
+use Rattle.determination.specs.Determination.{storeyRows, memberRows, sheetMost}
 use Rattle.determination.proofs.Outcomes.{storeysIn, membersIn}
 use Rattle.checks.specs.Rows.{recordsFault}
 
@@ -39,7 +39,7 @@ module _ (s : List ℕ) (srows mrows : ℕ) where
   pub held : Held srows mrows (survey s srows mrows)
   held = held-by (eqb (surveyFault s srows mrows .number) 0) refl
 
-module _ (a : Survey) (room : ℕ) (few : Held storeyRows memberRows (accepted a)) (enough : 28_286 ≤ room) where
+module _ (a : Survey) (room : ℕ) (few : Held storeyRows memberRows (accepted a)) (enough : sheetMost ≤ room) where
   by-building : (t : Bool) → eqb (recordsFault a) 0 ≡ t → reportFault a room ≡ recordsFault a
   unfolding reportFault
   by-building true e =
@@ -49,5 +49,5 @@ module _ (a : Survey) (room : ℕ) (few : Held storeyRows memberRows (accepted a
   by-building false e = rw e
 
 -- a file that is read has no refusal 9
-pub never-nine : (s : List ℕ) (a : Survey) (room : ℕ) → survey s storeyRows memberRows ≡ accepted a → 28_286 ≤ room → reportFault a room ≡ recordsFault a
+pub never-nine : (s : List ℕ) (a : Survey) (room : ℕ) → survey s storeyRows memberRows ≡ accepted a → sheetMost ≤ room → reportFault a room ≡ recordsFault a
 never-nine s a room e enough = by-building a room (rw e at (held s storeyRows memberRows)) enough (eqb (recordsFault a) 0) refl

@@ -8,7 +8,7 @@ use Rattle.reading.specs.Survey.{accepted, survey}
 use Rattle.storeys.specs.Storey.{Rules}
 use Rattle.storeys.specs.Building.{buildingAnswerBy, returnedBuilding}
 use Rattle.report.specs.Sheet.{sheet}
-use Rattle.determination.specs.Determination.{inputMost, storeyRows, memberRows, printed}
+use Rattle.determination.specs.Determination.{inputMost, storeyRows, memberRows, sheetMost, printed}
 
 -- the call on a building refuses the records of no accepted file, whatever rows it was read into, by any rules
 abbrev pub AcceptedJudged : Type 0
@@ -20,4 +20,4 @@ AcceptedJudged =
 abbrev pub AcceptedPrinted : Type 0
 AcceptedPrinted =
     (input : List ℕ) (a : Survey) (room : ℕ) → length input ≤ inputMost → survey input storeyRows memberRows ≡ accepted a
-    → 28_286 ≤ room → printed input room ≡ sheet a
+    → sheetMost ≤ room → printed input room ≡ sheet a

@@ -2,6 +2,7 @@
 -- 10 storeys, prints the sheet, or one line `E` with refusal and line; a longer input prints `E` with 8 and 0".
 use Rattle.records.specs.Notation.{ℕ, List, leb, eqb, length, pick}
 use Rattle.reading.specs.Survey.{Outcome, accepted, refused, survey}
+use Rattle.report.specs.Printing.{sheetSize}
 use Rattle.report.specs.Sheet.{sheet, reportFault, refusalLine}
 
 abbrev pub inputMost : ℕ
@@ -13,7 +14,11 @@ storeyRows = 10
 abbrev pub memberRows : ℕ
 memberRows = 320
 
--- "the sheet, or one line `E` with refusal and line": what a read file comes to, for a buffer of so many bytes. The program lends 28,286, the longest sheet, so that 9 does not occur there (`never-nine` of proofs/Room)
+-- how many bytes the longest sheet of these rows has
+abbrev pub sheetMost : ℕ
+sheetMost = sheetSize storeyRows memberRows
+
+-- "the sheet, or one line `E` with refusal and line": what a read file comes to, for a buffer of so many bytes. The program lends as many as the longest sheet has (`sheetMost`), so that 9 does not occur there (`never-nine` of proofs/Room)
 unfoldable pub text : Outcome → ℕ → List ℕ
 text (accepted a) room = pick (eqb (reportFault a room) 0) (sheet a) (refusalLine (reportFault a room) 0)
 text (refused n line) room = refusalLine n line

@@ -10,9 +10,6 @@ use libc::STDOUT_FILENO;
 // One byte more than the longest input, so that a longer one shows.
 const INPUT_ROOM: usize = determination::INPUT_MOST + 1;
 
-// The longest sheet: 86 bytes for each member, 74 for each storey, 26 for the building.
-const SHEET_ROOM: usize = 86 * determination::MEMBER_ROWS + 74 * determination::STOREY_ROWS + 26;
-
 const INPUT_FAILURE: [u8; 41] = *b"determine: standard input cannot be read\n";
 
 const OUTPUT_FAILURE: [u8; 45] = *b"determine: standard output cannot be written\n";
@@ -123,7 +120,7 @@ fn tell(failure: &[u8]) {
 
 // What an input comes to.
 fn print(input: &[u8]) {
-    let mut sheet = [0; SHEET_ROOM];
+    let mut sheet = [0; determination::SHEET_MOST];
     let n = determine(input, &mut sheet);
     let writes = write_all(STDOUT_FILENO, &sheet[..n]);
     let output = output_of(writes);

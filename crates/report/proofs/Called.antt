@@ -21,16 +21,16 @@ use Rattle.report.specs.declared.ReportAnswer.{ReportAnswer}
 use Rattle.report.specs.declared.ReportAnswer.the-variants.{Written, Refused}
 use Rattle.columns.specs.Bytes.{stamped}
 use Rattle.report.specs.Sheet.{buildingLine, storeyLines, storeysLines, sheet, lengthFault, reportFault, reportAnswer, bufferAfter, returnedReport, reportReturned}
-use Rattle.report.specs.Printing.{sizeOf, Few, faultBy}
+use Rattle.report.specs.Printing.{Few, faultBy, memberLineSize, storeyLineSize, buildingLineSize, sheetSize}
 use Rattle.columns.proofs.Stamps.{stamped-both, stamped-front}
 use Rattle.report.proofs.Rows.{length-building-line, length-storey-lines}
 use Rattle.checks.proofs.RowLaws.{storeys-most, members-most, before-end}
 use Rattle.report.proofs.Survey.{part-length}
 use Rattle.checks.proofs.RowLoops.{none-before}
 
--- ---- the sheet's length: 86 bytes for each member, 74 for each storey, 26 for the building
+-- ---- the sheet's length: memberLineSize bytes for each member, storeyLineSize for each storey, buildingLineSize for the building
 module _ (h : Header) (ss : List Storey) (ms : List Member) (none : recordsFault (surveyOf h ss ms) ≡ 0) where
-  length-storeys : (k i n : ℕ) → length (storeysLines k ss ms i n) + 86 * membersBefore ss i ≡ 86 * membersBefore ss (i + n) + 74 * n
+  length-storeys : (k i n : ℕ) → length (storeysLines k ss ms i n) + memberLineSize * membersBefore ss i ≡ memberLineSize * membersBefore ss (i + n) + storeyLineSize * n
   unfolding storeysLines membersBefore
   length-storeys k i zero = let e : i + 0 ≡ i = omega arith in rw e (omega arith)
   length-storeys k i (suc n) =
@@ -44,12 +44,12 @@ module _ (h : Header) (ss : List Storey) (ms : List Member) (none : recordsFault
         length-storeys k (suc i) n,
       ))
 
-  pub length-printed : length (storeysLines (h .knowledge) ss ms 0 (length ss)) ≡ 86 * length ms + 74 * length ss
+  pub length-printed : length (storeysLines (h .knowledge) ss ms 0 (length ss)) ≡ memberLineSize * length ms + storeyLineSize * length ss
   length-printed =
       let e : 0 + length ss ≡ length ss = omega arith in
       omega (arith, (rw e at (length-storeys (h .knowledge) 0 (length ss))), none-before ss, before-end h ss ms none)
 
-  pub length-sheet : length (sheet (surveyOf h ss ms)) ≡ sizeOf (length ss) (length ms)
+  pub length-sheet : length (sheet (surveyOf h ss ms)) ≡ sheetSize (length ss) (length ms)
   unfolding sheet
   length-sheet =
       let b = buildingLine (tilted h) (buildingRisky publishedRules (surveyOf h ss ms)) in
@@ -62,7 +62,7 @@ module _ (h : Header) (ss : List Storey) (ms : List Member) (first : ℕ) (e : f
 
   fault-by : (t : Bool) (room : ℕ) → eqb first 0 ≡ t → faultBy first (length ss) (length ms) room ≡ reportFault (surveyOf h ss ms) room
   unfolding reportFault
-  fault-by true room q = rw (← e, q, length-sheet h ss ms (sym e ∙ eqb-true first 0 q)) (sym (last-of (lengthFault (sizeOf (length ss) (length ms)) room)))
+  fault-by true room q = rw (← e, q, length-sheet h ss ms (sym e ∙ eqb-true first 0 q)) (sym (last-of (lengthFault (sheetSize (length ss) (length ms)) room)))
   fault-by false room q = rw (← e, q)
 
   pub fault-is : (z room : ℕ) → z ≡ faultBy first (length ss) (length ms) room → z ≡ reportFault (surveyOf h ss ms) room
@@ -91,14 +91,14 @@ module _ (h : Header) (ss : List Storey) (ms : List Member) (before : List ℕ) 
     pub sheet-fits : length (sheet (surveyOf h ss ms)) ≤ length before
     sheet-fits = leb-true (length (sheet (surveyOf h ss ms))) (length before) (clear (leb (length (sheet (surveyOf h ss ms))) (length before)) 0 9 (one (rest none-of-both)) (omega arith) .0)
 
-    pub room-enough : sizeOf (length ss) (length ms) ≤ length before
+    pub room-enough : sheetSize (length ss) (length ms) ≤ length before
     room-enough = omega (arith, sheet-fits, length-sheet h ss ms building-clear)
 
-    pub answer-written : (r : ReportAnswer) (n : ℕ) → r ≡ Written n → n ≡ sizeOf (length ss) (length ms) → returnedReport r ≡ reportReturned (surveyOf h ss ms) (length before)
+    pub answer-written : (r : ReportAnswer) (n : ℕ) → r ≡ Written n → n ≡ sheetSize (length ss) (length ms) → returnedReport r ≡ reportReturned (surveyOf h ss ms) (length before)
     unfolding reportAnswer
     answer-written r n q l = ap returnedReport q ∙ rw (← e, eq-eqb z 0 zero-fault, length-sheet h ss ms building-clear, l)
 
-    pub buffer-written : (filled ended : List ℕ) (p : ℕ) (risky : Bool) → filled ≡ stamped before 0 (storeysLines (h .knowledge) ss ms 0 (length ss)) → risky ≡ someRisky publishedRules (surveyOf h ss ms) → p ≡ 86 * length ms + 74 * length ss → ended ≡ stamped filled p (buildingLine (tilted h) (risky || tilted h)) → ended ≡ bufferAfter (surveyOf h ss ms) before
+    pub buffer-written : (filled ended : List ℕ) (p : ℕ) (risky : Bool) → filled ≡ stamped before 0 (storeysLines (h .knowledge) ss ms 0 (length ss)) → risky ≡ someRisky publishedRules (surveyOf h ss ms) → p ≡ memberLineSize * length ms + storeyLineSize * length ss → ended ≡ stamped filled p (buildingLine (tilted h) (risky || tilted h)) → ended ≡ bufferAfter (surveyOf h ss ms) before
     unfolding bufferAfter sheet buildingRisky
     buffer-written filled ended p risky f r l q =
         q

@@ -14,7 +14,7 @@ use Rattle.columns.specs.Line.{line}
 use Rattle.columns.specs.Bytes.{stamped, putAt, placeAfter}
 use Rattle.columns.proofs.Stamps.{length-line, put-fits, place-fits}
 use Rattle.report.specs.Sheet.{memberLine, storeyLine, buildingLine, refusalLine}
-use Rattle.report.specs.Printing.{faultBy, sizeOf}
+use Rattle.report.specs.Printing.{faultBy, sheetSize}
 
 pub member-line-is : (number c o : ℕ) (f : Finding) → c ≡ code (f .class) → o ≡ flag (f .over) → line (77 ∷ []) (number ∷ c ∷ f .m .0 ∷ f .«m_limit» .0 ∷ f .rotation .0 ∷ f .«rotation_limit» .0 ∷ o ∷ []) ≡ memberLine number f
 unfolding memberLine
@@ -48,8 +48,8 @@ module _ (first storeys members room : ℕ) where
   pub fault-first : (first ≡ 0 → ⊥) → first ≡ faultBy first storeys members room
   fault-first h = rw (ne-eqb first 0 h)
 
-  pub fault-none : first ≡ 0 → sizeOf storeys members ≤ room → 0 ≡ faultBy first storeys members room
-  fault-none e h = rw (eq-eqb first 0 e, le-leb (sizeOf storeys members) room h)
+  pub fault-none : first ≡ 0 → sheetSize storeys members ≤ room → 0 ≡ faultBy first storeys members room
+  fault-none e h = rw (eq-eqb first 0 e, le-leb (sheetSize storeys members) room h)
 
-  pub fault-nine : first ≡ 0 → room < sizeOf storeys members → 9 ≡ faultBy first storeys members room
-  fault-nine e h = rw (eq-eqb first 0 e, lt-leb (sizeOf storeys members) room h)
+  pub fault-nine : first ≡ 0 → room < sheetSize storeys members → 9 ≡ faultBy first storeys members room
+  fault-nine e h = rw (eq-eqb first 0 e, lt-leb (sheetSize storeys members) room h)

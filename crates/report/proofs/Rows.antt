@@ -27,29 +27,29 @@ use Rattle.checks.proofs.Refusals.{None, one, rest, in-order-clear, count-clear
 use Rattle.columns.specs.Bytes.{stamped}
 use Rattle.report.specs.declared.printed.PrintedMembers.{PrintedMembers}
 use Rattle.report.specs.Sheet.{memberLine, storeyLine, buildingLine, memberLines, storeyLines}
-use Rattle.report.specs.Printing.{begunAt}
+use Rattle.report.specs.Printing.{begunAt, memberLineSize, storeyLineSize, buildingLineSize}
 use Rattle.columns.proofs.Stamps.{stamped-none, stamped-both, length-line}
 
 -- ---- lengths
-pub length-member-line : (number : ℕ) (f : Finding) → length (memberLine number f) ≡ 86
+pub length-member-line : (number : ℕ) (f : Finding) → length (memberLine number f) ≡ memberLineSize
 unfolding memberLine
 length-member-line number f = length-line (77 ∷ []) _
 
-pub length-storey-line : (number : ℕ) (f : StoreyFinding) → length (storeyLine number f) ≡ 74
+pub length-storey-line : (number : ℕ) (f : StoreyFinding) → length (storeyLine number f) ≡ storeyLineSize
 unfolding storeyLine
 length-storey-line number f = length-line (83 ∷ []) _
 
-pub length-building-line : (tilt risky : Bool) → length (buildingLine tilt risky) ≡ 26
+pub length-building-line : (tilt risky : Bool) → length (buildingLine tilt risky) ≡ buildingLineSize
 unfolding buildingLine
 length-building-line tilt risky = length-line (66 ∷ []) _
 
-pub length-member-lines : (k : ℕ) (met : Bool) (ms : List Member) → length (memberLines k met ms) ≡ 86 * length ms
+pub length-member-lines : (k : ℕ) (met : Bool) (ms : List Member) → length (memberLines k met ms) ≡ memberLineSize * length ms
 unfolding memberLines
 length-member-lines k met [] = refl
 length-member-lines k met (m ∷ ms) =
     omega (arith, length-append (memberLine (m .number) (finding k met m)) (memberLines k met ms), length-member-line (m .number) (finding k met m), length-member-lines k met ms)
 
-pub length-storey-lines : (k : ℕ) (s : Storey) (ms : List Member) → length (storeyLines k s ms) ≡ 86 * length ms + 74
+pub length-storey-lines : (k : ℕ) (s : Storey) (ms : List Member) → length (storeyLines k s ms) ≡ memberLineSize * length ms + storeyLineSize
 unfolding storeyLines
 length-storey-lines k s ms =
     let met = meetsWallShare (s .shear) ms in
@@ -59,13 +59,13 @@ length-storey-lines k s ms =
 -- ---- the members of a storey: what holds before each turn, of the bytes and of the totals at once
 module _ (k : ℕ) (met : Bool) (rows : List Member) (at : ℕ) (before : List ℕ) where
   pub record Turn (out : List ℕ) (r : PrintedMembers) (j : ℕ) : Type 0 where
-    pub place : r .at ≡ at + 86 * j
+    pub place : r .at ≡ at + memberLineSize * j
     pub size : length out ≡ length before
     pub totals : Going k met rows (r .tally) j
     pub lines : stamped out (r .at) (memberLines k met (drop j rows)) ≡ stamped before at (memberLines k met rows)
 
   module _ (out : List ℕ) (r : PrintedMembers) (j : ℕ) (u : Turn out r j) where
-    pub turn-next : (turned : List ℕ) (z : PrintedMembers) → Rows rows → j < length rows → z .at ≡ r .at + 86 → z .tally ≡ added (r .tally) k met (memberIn rows j) → turned ≡ stamped out (r .at) (memberLine (memberIn rows j .number) (finding k met (memberIn rows j))) → length turned ≡ length out → Turn turned z (j + 1)
+    pub turn-next : (turned : List ℕ) (z : PrintedMembers) → Rows rows → j < length rows → z .at ≡ r .at + memberLineSize → z .tally ≡ added (r .tally) k met (memberIn rows j) → turned ≡ stamped out (r .at) (memberLine (memberIn rows j .number) (finding k met (memberIn rows j))) → length turned ≡ length out → Turn turned z (j + 1)
     unfolding memberLines
     turn-next turned z g l e t b s =
         let m = memberIn rows j in
@@ -80,7 +80,7 @@ module _ (k : ℕ) (met : Bool) (rows : List Member) (at : ℕ) (before : List �
         }
 
     module _ (l : length rows ≤ j) (start : ℕ) (e : at ≡ start) where
-      pub end-place : r .at ≡ start + 86 * length rows
+      pub end-place : r .at ≡ start + memberLineSize * length rows
       end-place = omega (arith, u .place, u .totals .within, l, e)
 
       pub end-totals : r .tally ≡ tallyOf k met rows
@@ -116,7 +116,7 @@ module _ (k : ℕ) (s : Storey) (rows : List Member) (none : storeyCallFault k s
     finding-is : foundBy s met t ≡ storeyFinding publishedRules k (s .shear) rows
     finding-is = found-is rows storey-rows s storey-good k met t (foundBy s met t) w q refl
 
-    pub storey-done : (bytes filled ended : List ℕ) (at p : ℕ) → filled ≡ stamped bytes at (memberLines k met rows) → p ≡ at + 86 * length rows → ended ≡ stamped filled p (storeyLine (s .number) (foundBy s met t)) → ended ≡ stamped bytes at (storeyLines k s rows)
+    pub storey-done : (bytes filled ended : List ℕ) (at p : ℕ) → filled ≡ stamped bytes at (memberLines k met rows) → p ≡ at + memberLineSize * length rows → ended ≡ stamped filled p (storeyLine (s .number) (foundBy s met t)) → ended ≡ stamped bytes at (storeyLines k s rows)
     unfolding storeyLines
     storey-done bytes filled ended at p a n b =
         b

@@ -12,6 +12,7 @@ use borrow.Kind.Bool.{pBool}
 use borrow.Kind.ShrSlice.{pShrS}
 use borrow.Kind.MutSlice.{pMutS}
 use borrow.Table.Referent.{rtF, fInt}
+use Rattle.report.specs.Printing.{memberLineSize, storeyLineSize}
 use Rattle.records.specs.Records.{surveyOf}
 use Rattle.members.specs.Finding.{knowledge}
 use Rattle.storeys.specs.Storey.{publishedRules, storeyRisky, storeyCallFault}
@@ -33,10 +34,10 @@ put-members = record {
   requires = λ κs a.
       ((knowledge (a .1 .1 .0) ≡ true)
       × Rows (a .1 .1 .1 .1 .0 .now)
-      × (a .1 .0 .at + 86 * length (a .1 .1 .1 .1 .0 .now) ≤ length (a .0 .now)))
+      × (a .1 .0 .at + memberLineSize * length (a .1 .1 .1 .1 .0 .now) ≤ length (a .0 .now)))
       ∷ [];
   ensures = λ κs a z e.
-      (z .at ≡ a .1 .0 .at + 86 * length (a .1 .1 .1 .1 .0 .now))
+      (z .at ≡ a .1 .0 .at + memberLineSize * length (a .1 .1 .1 .1 .0 .now))
       ∷ (z .tally ≡ tallyOf (a .1 .1 .0) (a .1 .1 .1 .0) (a .1 .1 .1 .1 .0 .now))
       ∷ (e .0 .now ≡ stamped (a .0 .now) (a .1 .0 .at) (memberLines (a .1 .1 .0) (a .1 .1 .1 .0) (a .1 .1 .1 .1 .0 .now)))
       ∷ [];
@@ -46,10 +47,10 @@ abbrev pub put-storey-lines : Plain {n = 2} (pMutS bytes 0 tt ∷ taken printeds
 put-storey-lines = record {
   requires = λ κs a.
       ((storeyCallFault (a .1 .1 .0) (a .1 .1 .1 .0) (a .1 .1 .1 .1 .0 .now) ≡ 0)
-      × (a .1 .0 .at + (86 * length (a .1 .1 .1 .1 .0 .now) + 74) ≤ length (a .0 .now)))
+      × (a .1 .0 .at + (memberLineSize * length (a .1 .1 .1 .1 .0 .now) + storeyLineSize) ≤ length (a .0 .now)))
       ∷ [];
   ensures = λ κs a z e.
-      (z .at ≡ a .1 .0 .at + (86 * length (a .1 .1 .1 .1 .0 .now) + 74))
+      (z .at ≡ a .1 .0 .at + (memberLineSize * length (a .1 .1 .1 .1 .0 .now) + storeyLineSize))
       ∷ (z .risky ≡ (a .1 .0 .risky || storeyRisky publishedRules (a .1 .1 .0) (a .1 .1 .1 .0 .shear) (a .1 .1 .1 .1 .0 .now)))
       ∷ (e .0 .now ≡ stamped (a .0 .now) (a .1 .0 .at) (storeyLines (a .1 .1 .0) (a .1 .1 .1 .0) (a .1 .1 .1 .1 .0 .now)))
       ∷ [];
@@ -59,10 +60,10 @@ abbrev pub put-storeys : Plain {n = 3} (pMutS bytes 0 tt ∷ taken header ∷ pS
 put-storeys = record {
   requires = λ κs a.
       ((recordsFault (surveyOf (a .1 .0) (a .1 .1 .0 .now) (a .1 .1 .1 .0 .now)) ≡ 0)
-      × (86 * length (a .1 .1 .1 .0 .now) + 74 * length (a .1 .1 .0 .now) ≤ length (a .0 .now)))
+      × (memberLineSize * length (a .1 .1 .1 .0 .now) + storeyLineSize * length (a .1 .1 .0 .now) ≤ length (a .0 .now)))
       ∷ [];
   ensures = λ κs a z e.
-      (z .at ≡ 86 * length (a .1 .1 .1 .0 .now) + 74 * length (a .1 .1 .0 .now))
+      (z .at ≡ memberLineSize * length (a .1 .1 .1 .0 .now) + storeyLineSize * length (a .1 .1 .0 .now))
       ∷ (z .risky ≡ someRisky publishedRules (surveyOf (a .1 .0) (a .1 .1 .0 .now) (a .1 .1 .1 .0 .now)))
       ∷ (e .0 .now ≡ stamped (a .0 .now) 0 (storeysLines (a .1 .0 .knowledge) (a .1 .1 .0 .now) (a .1 .1 .1 .0 .now) 0 (length (a .1 .1 .0 .now))))
       ∷ [];

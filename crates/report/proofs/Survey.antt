@@ -21,7 +21,7 @@ use Rattle.storeys.proofs.Accepted.{known-level}
 use Rattle.checks.proofs.RowLoops.{none-before, next-before, next-within, part-is}
 use Rattle.columns.specs.Bytes.{stamped}
 use Rattle.report.specs.declared.printed.PrintedStoreys.{PrintedStoreys}
-use Rattle.report.specs.Printing.{front}
+use Rattle.report.specs.Printing.{front, memberLineSize, storeyLineSize}
 use Rattle.report.specs.Sheet.{storeyLines, storeysLines}
 use Rattle.columns.proofs.Stamps.{stamped-none, stamped-both}
 use Rattle.report.proofs.Rows.{length-storey-lines}
@@ -65,7 +65,7 @@ module _ (k : ℕ) (ss : List Storey) (ms : List Member) (before : List ℕ) whe
   pub record Passed (out : List ℕ) (p : PrintedStoreys) (a i : ℕ) : Type 0 where
     pub within : i ≤ length ss
     pub start : a ≡ membersBefore ss i
-    pub place : p .at ≡ 86 * a + 74 * i
+    pub place : p .at ≡ memberLineSize * a + storeyLineSize * i
     pub size : length out ≡ length before
     pub risky : p .risky ≡ anyBelow (riskyAt publishedRules k ss ms) i
     pub lines : stamped out (p .at) (storeysLines k ss ms i (length ss - i)) ≡ stamped before 0 (storeysLines k ss ms 0 (length ss))
@@ -82,7 +82,7 @@ module _ (k : ℕ) (ss : List Storey) (ms : List Member) (before : List ℕ) whe
   risky-more i = rw (add-one i)
 
   module _ (out : List ℕ) (p : PrintedStoreys) (a i : ℕ) (u : Passed out p a i) where
-    next-lines : (turned : List ℕ) (next : ℕ) → i < length ss → next ≡ p .at + (86 * length (membersOf ss ms i) + 74) → turned ≡ stamped out (p .at) (storeyLines k (storeyIn ss i) (membersOf ss ms i)) → stamped turned next (storeysLines k ss ms (i + 1) (length ss - (i + 1))) ≡ stamped before 0 (storeysLines k ss ms 0 (length ss))
+    next-lines : (turned : List ℕ) (next : ℕ) → i < length ss → next ≡ p .at + (memberLineSize * length (membersOf ss ms i) + storeyLineSize) → turned ≡ stamped out (p .at) (storeyLines k (storeyIn ss i) (membersOf ss ms i)) → stamped turned next (storeysLines k ss ms (i + 1) (length ss - (i + 1))) ≡ stamped before 0 (storeysLines k ss ms 0 (length ss))
     unfolding storeysLines
     next-lines turned next l e b =
         let text = storeyLines k (storeyIn ss i) (membersOf ss ms i) in
@@ -92,7 +92,7 @@ module _ (k : ℕ) (ss : List Storey) (ms : List Member) (before : List ℕ) whe
 
     -- the rows from `a` on, as many as the storey counts
     module _ (n : ℕ) (part : List Member) (l : i < length ss) (count : n ≡ storeyIn ss i .count) (same : part ≡ membersOf ss ms i) (full : length part ≡ n) where
-      pub passed-next : (turned : List ℕ) (z : PrintedStoreys) → z .at ≡ p .at + (86 * length part + 74) → z .risky ≡ (p .risky || storeyRisky publishedRules k (storeyIn ss i .shear) part) → turned ≡ stamped out (p .at) (storeyLines k (storeyIn ss i) part) → length turned ≡ length out → Passed turned z (a + n) (i + 1)
+      pub passed-next : (turned : List ℕ) (z : PrintedStoreys) → z .at ≡ p .at + (memberLineSize * length part + storeyLineSize) → z .risky ≡ (p .risky || storeyRisky publishedRules k (storeyIn ss i .shear) part) → turned ≡ stamped out (p .at) (storeyLines k (storeyIn ss i) part) → length turned ≡ length out → Passed turned z (a + n) (i + 1)
       passed-next turned z e r b s =
           record {
             within = omega arith;
@@ -107,7 +107,7 @@ module _ (k : ℕ) (ss : List Storey) (ms : List Member) (before : List ℕ) whe
       all-passed : i ≡ length ss
       all-passed = omega (arith, u .within)
 
-      pub end-place : (h : Header) → recordsFault (surveyOf h ss ms) ≡ 0 → p .at ≡ 86 * length ms + 74 * length ss
+      pub end-place : (h : Header) → recordsFault (surveyOf h ss ms) ≡ 0 → p .at ≡ memberLineSize * length ms + storeyLineSize * length ss
       end-place h none =
           let g : a ≡ length ms = u .start ∙ rw all-passed (before-end h ss ms none) in
           omega (arith, all-passed, g, u .place)

@@ -3,6 +3,7 @@ use Prim.Native.Nat.{ℕ, _+_, _*_, _≤_}
 use mathlib.Core.Bool.{false}
 use mathlib.Core.Path.{_≡_}
 use lib.Dec.{eqb}
+use Rattle.columns.specs.Line.{sheetLineSize}
 use Rattle.records.specs.Notation.{pick}
 use Rattle.storeys.specs.Totals.{noTally}
 use Rattle.report.specs.declared.printed.PrintedStoreys.{PrintedStoreys}
@@ -17,9 +18,19 @@ front = record { at = 0; risky = false }
 abbrev pub begunAt : ℕ → PrintedMembers
 begunAt p = record { at = p; tally = noTally }
 
--- a sheet's length, by the rows that it prints
-abbrev pub sizeOf : ℕ → ℕ → ℕ
-sizeOf storeys members = 86 * members + 74 * storeys + 26
+-- how many bytes a line takes: `M` has 7 fields, `S` 6, `B` 2
+abbrev pub memberLineSize : ℕ
+memberLineSize = sheetLineSize 7
+
+abbrev pub storeyLineSize : ℕ
+storeyLineSize = sheetLineSize 6
+
+abbrev pub buildingLineSize : ℕ
+buildingLineSize = sheetLineSize 2
+
+-- a sheet's size, by the rows that it prints
+abbrev pub sheetSize : ℕ → ℕ → ℕ
+sheetSize storeys members = memberLineSize * members + storeyLineSize * storeys + buildingLineSize
 
 -- a survey that is not refused has few rows
 abbrev pub Few : ℕ → ℕ → ℕ → Type 0
@@ -27,4 +38,4 @@ Few first storeys members = first ≡ 0 → (storeys ≤ 10) × (members ≤ 2_0
 
 -- the refusal of the records, then 9
 abbrev pub faultBy : ℕ → ℕ → ℕ → ℕ → ℕ
-faultBy first storeys members room = pick (eqb first 0) (lengthFault (sizeOf storeys members) room) first
+faultBy first storeys members room = pick (eqb first 0) (lengthFault (sheetSize storeys members) room) first

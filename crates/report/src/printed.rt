@@ -9,9 +9,12 @@ ghost use Rattle.storeys.specs.Totals.{foundBy};
 ghost use Rattle.storeys.specs.Tally.{added, AddsUp};
 ghost use Rattle.columns.specs.Bytes.{stamped};
 ghost use Rattle.report.specs.Sheet.{memberLine, storeyLine, buildingLine};
-ghost use Rattle.report.specs.Printing.{front, begunAt, faultBy, Few};
+ghost use Rattle.report.specs.Printing.{front, begunAt, faultBy, Few, memberLineSize, storeyLineSize, buildingLineSize};
+use crate::BUILDING_LINE_SIZE;
+use crate::MEMBER_LINE_SIZE;
 use crate::ReportAnswer;
 use crate::ReportJudgment;
+use crate::STOREY_LINE_SIZE;
 use columns::line::put_line;
 use members::finding::Finding;
 use members::finding::MemberAnswer;
@@ -59,8 +62,8 @@ pub(crate) fn no_member(p: PrintedStoreys) -> PrintedMembers
 }
 
 fn put_finding(out: &mut [u8], at: usize, number: u64, f: Finding) -> usize
-    requires { ⌜ at + 86 ≤ length (now out) ⌝ }
-    ensures { λ r. ⌜ r ≡ at + 86 ⌝ }
+    requires { ⌜ at + memberLineSize ≤ length (now out) ⌝ }
+    ensures { λ r. ⌜ r ≡ at + memberLineSize ⌝ }
     ensures { λ _. ⌜ now (out .exit) ≡ stamped (now (out .entry)) at (memberLine number f) ⌝ }
 {
     let class = f.class;
@@ -84,8 +87,8 @@ pub(crate) fn put_member(
     met: bool,
     m: Member,
 ) -> PrintedMembers
-    requires { ⌜ AddsUp (r .tally) k m × (r .at + 86 ≤ length (now out)) ⌝ }
-    ensures { λ z. ⌜ z .at ≡ r .at + 86 ⌝ }
+    requires { ⌜ AddsUp (r .tally) k m × (r .at + memberLineSize ≤ length (now out)) ⌝ }
+    ensures { λ z. ⌜ z .at ≡ r .at + memberLineSize ⌝ }
     ensures { λ z. ⌜ z .tally ≡ added (r .tally) k met m ⌝ }
     ensures { λ _. ⌜ now (out .exit) ≡ stamped (now (out .entry)) (r .at) (memberLine (m .number) (finding k met m)) ⌝ }
 {
@@ -101,8 +104,8 @@ pub(crate) fn put_member(
 }
 
 pub(crate) fn put_storey(out: &mut [u8], at: usize, s: Storey, f: StoreyFinding) -> usize
-    requires { ⌜ at + 74 ≤ length (now out) ⌝ }
-    ensures { λ r. ⌜ r ≡ at + 74 ⌝ }
+    requires { ⌜ at + storeyLineSize ≤ length (now out) ⌝ }
+    ensures { λ r. ⌜ r ≡ at + storeyLineSize ⌝ }
     ensures { λ _. ⌜ now (out .exit) ≡ stamped (now (out .entry)) at (storeyLine (s .number) f) ⌝ }
 {
     let values = [
@@ -124,8 +127,8 @@ pub(crate) fn put_totals(
     s: Storey,
     met: bool,
 ) -> PrintedStoreys
-    requires { ⌜ r .at + 74 ≤ length (now out) ⌝ }
-    ensures { λ z. ⌜ z .at ≡ r .at + 74 ⌝ }
+    requires { ⌜ r .at + storeyLineSize ≤ length (now out) ⌝ }
+    ensures { λ z. ⌜ z .at ≡ r .at + storeyLineSize ⌝ }
     ensures { λ z. ⌜ z .risky ≡ (p .risky || foundBy s met (r .tally) .risky) ⌝ }
     ensures { λ _. ⌜ now (out .exit) ≡ stamped (now (out .entry)) (r .at) (storeyLine (s .number) (foundBy s met (r .tally))) ⌝ }
 {
@@ -149,8 +152,8 @@ fn either(a: bool, b: bool) -> bool
 
 // The last line, after all storeys.
 pub(crate) fn put_building(out: &mut [u8], h: Header, p: PrintedStoreys) -> usize
-    requires { ⌜ p .at + 26 ≤ length (now out) ⌝ }
-    ensures { λ r. ⌜ r ≡ p .at + 26 ⌝ }
+    requires { ⌜ p .at + buildingLineSize ≤ length (now out) ⌝ }
+    ensures { λ r. ⌜ r ≡ p .at + buildingLineSize ⌝ }
     ensures { λ _. ⌜ now (out .exit) ≡ stamped (now (out .entry)) (p .at) (buildingLine (tilted h) (p .risky || tilted h)) ⌝ }
 {
     let tilt = is_tilted(h);
@@ -167,7 +170,7 @@ pub(crate) fn report_fault(first: u64, storeys: usize, members: usize, room: usi
     if first != 0 {
         return first;
     }
-    if 86 * members + 74 * storeys + 26 <= room {
+    if MEMBER_LINE_SIZE * members + STOREY_LINE_SIZE * storeys + BUILDING_LINE_SIZE <= room {
         return 0;
     }
     9

@@ -10,6 +10,7 @@ ghost use Rattle.storeys.specs.Building.{someRisky};
 ghost use Rattle.storeys.specs.Tally.{tallyOf, Rows};
 ghost use Rattle.checks.specs.Rows.{recordsFault};
 ghost use Rattle.columns.specs.Bytes.{stamped};
+ghost use Rattle.report.specs.Printing.{memberLineSize, storeyLineSize};
 ghost use Rattle.report.specs.Sheet.{memberLines, storeyLines, storeysLines, returnedReport, reportReturned, bufferAfter};
 use crate::ReportJudgment;
 use crate::printed::PrintedMembers;
@@ -38,8 +39,8 @@ fn put_members(
     met: bool,
     rows: &[Member],
 ) -> PrintedMembers
-    requires { ⌜ (knowledge k ≡ true) × Rows (now rows) × (p .at + 86 * length (now rows) ≤ length (now out)) ⌝ }
-    ensures { λ r. ⌜ r .at ≡ p .at + 86 * length (now (rows .entry)) ⌝ }
+    requires { ⌜ (knowledge k ≡ true) × Rows (now rows) × (p .at + memberLineSize * length (now rows) ≤ length (now out)) ⌝ }
+    ensures { λ r. ⌜ r .at ≡ p .at + memberLineSize * length (now (rows .entry)) ⌝ }
     ensures { λ r. ⌜ r .tally ≡ tallyOf k met (now (rows .entry)) ⌝ }
     ensures { λ _. ⌜ now (out .exit) ≡ stamped (now (out .entry)) (p .at) (memberLines k met (now (rows .entry))) ⌝ }
 {
@@ -60,8 +61,8 @@ fn put_storey_lines(
     s: Storey,
     rows: &[Member],
 ) -> PrintedStoreys
-    requires { ⌜ (storeyCallFault k s (now rows) ≡ 0) × (p .at + (86 * length (now rows) + 74) ≤ length (now out)) ⌝ }
-    ensures { λ r. ⌜ r .at ≡ p .at + (86 * length (now (rows .entry)) + 74) ⌝ }
+    requires { ⌜ (storeyCallFault k s (now rows) ≡ 0) × (p .at + (memberLineSize * length (now rows) + storeyLineSize) ≤ length (now out)) ⌝ }
+    ensures { λ r. ⌜ r .at ≡ p .at + (memberLineSize * length (now (rows .entry)) + storeyLineSize) ⌝ }
     ensures { λ r. ⌜ r .risky ≡ (p .risky || storeyRisky publishedRules k (s .shear) (now (rows .entry))) ⌝ }
     ensures { λ _. ⌜ now (out .exit) ≡ stamped (now (out .entry)) (p .at) (storeyLines k s (now (rows .entry))) ⌝ }
 {
@@ -72,8 +73,8 @@ fn put_storey_lines(
 
 // The lines of the storeys of an accepted survey, from the front.
 fn put_storeys(out: &mut [u8], h: Header, storeys: &[Storey], members: &[Member]) -> PrintedStoreys
-    requires { ⌜ (recordsFault (surveyOf h (now storeys) (now members)) ≡ 0) × (86 * length (now members) + 74 * length (now storeys) ≤ length (now out)) ⌝ }
-    ensures { λ r. ⌜ r .at ≡ 86 * length (now (members .entry)) + 74 * length (now (storeys .entry)) ⌝ }
+    requires { ⌜ (recordsFault (surveyOf h (now storeys) (now members)) ≡ 0) × (memberLineSize * length (now members) + storeyLineSize * length (now storeys) ≤ length (now out)) ⌝ }
+    ensures { λ r. ⌜ r .at ≡ memberLineSize * length (now (members .entry)) + storeyLineSize * length (now (storeys .entry)) ⌝ }
     ensures { λ r. ⌜ r .risky ≡ someRisky publishedRules (surveyOf h (now (storeys .entry)) (now (members .entry))) ⌝ }
     ensures { λ _. ⌜ now (out .exit) ≡ stamped (now (out .entry)) 0 (storeysLines (h .knowledge) (now (storeys .entry)) (now (members .entry)) 0 (length (now (storeys .entry)))) ⌝ }
 {

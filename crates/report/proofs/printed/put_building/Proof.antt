@@ -1,5 +1,6 @@
 use mathlib.Core.Bool.{Bool, _||_}
 use mathlib.Core.Path.{refl, ap, _∙_}
+use Rattle.report.specs.Printing.{buildingLineSize}
 use Rattle.members.specs.Finding.{flag}
 use Rattle.storeys.specs.Building.{tilted}
 use Rattle.report.proofs.Printing.{line-put, building-line-is}
@@ -39,7 +40,7 @@ returns c =
     let f = c .before .before .before .before .before .before .before .flag in
     let g = c .before .before .before .before .before .before .flag2 in
     let l = c .before .before .put-line in
-    line-put _ _ _ (a .out .now) _ (a .p .at) _ 26 (building-line-is (f .result) (g .result) (tilted (a .h)) (a .p .risky || tilted (a .h)) (f .ensures ∙ ap flag t) (g .ensures ∙ ap flag r))
+    line-put _ _ _ (a .out .now) _ (a .p .at) _ buildingLineSize (building-line-is (f .result) (g .result) (tilted (a .h)) (a .p .risky || tilted (a .h)) (f .ensures ∙ ap flag t) (g .ensures ∙ ap flag r))
     refl (c .before .before .before .before .before .before .before .before .before .before .before .pre) (l .ensures .0) (l .ensures .1)
 
 pub put-building-spec : {M : Type 1} → statement M

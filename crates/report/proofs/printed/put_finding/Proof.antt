@@ -1,4 +1,5 @@
 use mathlib.Core.Path.{refl}
+use Rattle.report.specs.Printing.{memberLineSize}
 use Rattle.report.proofs.Printing.{line-put, member-line-is}
 use borrow.Author.Needs.{needs}
 use Rattle.report.proofs.printed.put_finding.Statement.{statement}
@@ -26,7 +27,7 @@ returns : tie.Need-returns
 returns c =
     let a = c .before .before .before .before .before .before .before .before .before .args in
     let l = c .before .before .put-line in
-    line-put _ _ _ (a .out .now) _ (a .at) _ 86 (member-line-is (a .number) (c .before .before .before .before .before .before .before .code .result) (c .before .before .before .before .before .before .flag .result) (a .f) (c .before .before .before .before .before .before .before .code .ensures) (c .before .before .before .before .before .before .flag .ensures))
+    line-put _ _ _ (a .out .now) _ (a .at) _ memberLineSize (member-line-is (a .number) (c .before .before .before .before .before .before .before .code .result) (c .before .before .before .before .before .before .flag .result) (a .f) (c .before .before .before .before .before .before .before .code .ensures) (c .before .before .before .before .before .before .flag .ensures))
     refl (c .before .before .before .before .before .before .before .before .before .pre) (l .ensures .0) (l .ensures .1)
 
 pub put-finding-spec : {M : Type 1} → statement M

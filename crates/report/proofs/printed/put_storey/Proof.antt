@@ -1,4 +1,5 @@
 use mathlib.Core.Path.{refl}
+use Rattle.report.specs.Printing.{storeyLineSize}
 use Rattle.report.proofs.Printing.{line-put, storey-line-is}
 use borrow.Author.Needs.{needs}
 use Rattle.report.proofs.printed.put_storey.Statement.{statement}
@@ -23,7 +24,7 @@ returns : tie.Need-returns
 returns c =
     let a = c .before .before .before .before .before .before .before .before .args in
     let l = c .before .before .put-line in
-    line-put _ _ _ (a .out .now) _ (a .at) _ 74 (storey-line-is (a .s .number) (c .before .before .before .before .before .before .flag .result) (a .f) (c .before .before .before .before .before .before .flag .ensures))
+    line-put _ _ _ (a .out .now) _ (a .at) _ storeyLineSize (storey-line-is (a .s .number) (c .before .before .before .before .before .before .flag .result) (a .f) (c .before .before .before .before .before .before .flag .ensures))
     refl (c .before .before .before .before .before .before .before .before .pre) (l .ensures .0) (l .ensures .1)
 
 pub put-storey-spec : {M : Type 1} → statement M

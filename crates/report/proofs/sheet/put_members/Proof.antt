@@ -21,7 +21,7 @@ use Rattle.walk.proofs.Slice.{ty, R, kept, full, here, sh-ptr, sh-len, val-at, 
 use Rattle.walk.proofs.Array.{begin, end, over}
 use Rattle.walk.proofs.Fn.{Callee, Knows, Body, Answers, entry, call, meets}
 use Rattle.records.specs.Blank.{noMember}
-use Rattle.records.proofs.Structs.{member}
+use Rattle.records.proofs.Structs.{member, member-bytes}
 use Rattle.storeys.proofs.Loops.{tally-room}
 use Rattle.report.specs.declared.printed.PrintedMembers.{PrintedMembers}
 use Rattle.report.proofs.Structs.{printedstoreys, printedmembers}
@@ -79,7 +79,7 @@ body κs qs bs =
     (from (cx1 κs qs) (begin 2 (tt, (tt, (tt, (tt, (tt, (tt, (tt, (tt, (tt, (tt, (tt, (tt, (tt, (tt, tt)))))))))))))) ▸
     lend-on bytes 10 1 0 2 same gone tt refl refl (λ b o. tt) ⨾
     slice bytes (asMut bytes) 11 10 2 (fld 1 1 (owed-len bytes 0 2 (lease (κs .0) (qs .0))) refl) same gone refl refl (λ b o k. tt) ⨾
-    op2 8 u64 (mul unsigned) (cp 7 (sc u64)) (lit w64 208 tt) gone refl (λ u. refl) (λ u. tt) ⨾
+    op2 8 u64 (mul unsigned) (cp 7 (sc u64)) (lit w64 member-bytes tt) gone refl (λ u. refl) (λ u. tt) ⨾
     op2 12 sPtr offset (fld 5 0 (sh-ptr (R member) 1) refl) (cp 8 (sc u64)) gone refl (λ u. refl) (λ u. tt) ⨾
     elem-out member 13 12 5 7 1 (λ i. i) noMember same same gone tt refl refl ⨾
     from (cx2 κs qs) (forget 8 (old u64) ▸

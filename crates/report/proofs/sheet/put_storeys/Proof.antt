@@ -26,7 +26,7 @@ use Rattle.walk.proofs.Walk.{S, _⨾_, _▸_, _◂_, told, _then_, at, slot, fr
 use Rattle.walk.proofs.Slice.{ty, sh-at, R, kept, full, here, sh-ptr, sh-len, val-at, sh-spares, sh-reads, sh-room, mut-at, mut-is, mut-reads, copy-val, elem-out, part, slice, lend-on, back-on, owed-len}
 use Rattle.walk.proofs.Array.{begin, end, over}
 use Rattle.walk.proofs.Fn.{Callee, Knows, Body, Answers, entry, callee, knows, call, meets}
-use Rattle.records.proofs.Structs.{header, member, storey}
+use Rattle.records.proofs.Structs.{header, member, storey, member-bytes, storey-bytes}
 use Rattle.storeys.proofs.verdict.level_of.Met as level-of-met
 use Rattle.storeys.proofs.verdict.level_of.Symbol as level-of-symbol
 use Rattle.storeys.proofs.verdict.level_of.Kinds as level-of-kinds
@@ -98,7 +98,7 @@ body κs qs bs =
     op2 12 sBool (lt unsigned) (cp 8 (sc u64)) (cp 11 (sc u64)) gone refl (λ u. refl) (λ u. tt) ⨾
     forget 11 (old u64) ▸
     test 12 (λ t. t) (sc sBool) (old sBool) refl (exits 1 tt)
-    (from (cx1 κs qs) (op2 11 u64 (mul unsigned) (cp 8 (sc u64)) (lit w64 24 tt) gone refl (λ u. refl) (λ u. tt) ⨾
+    (from (cx1 κs qs) (op2 11 u64 (mul unsigned) (cp 8 (sc u64)) (lit w64 storey-bytes tt) gone refl (λ u. refl) (λ u. tt) ⨾
     op2 13 sPtr offset (fld 3 0 (sh-ptr (R storey) 1) refl) (cp 11 (sc u64)) gone refl (λ u. refl) (λ u. tt) ⨾
     elem-out storey 14 13 3 8 1 (λ i. i) noStorey same same gone tt refl refl ⨾
     forget 11 (old u64) ▸
@@ -111,7 +111,7 @@ body κs qs bs =
     begin 3 (tt, (tt, (tt, (tt, (tt, (tt, (tt, (tt, (tt, (tt, (tt, (tt, (tt, (tt, (tt, (tt, (tt, (tt, (tt, (tt, (tt, tt))))))))))))))))))))) ▸
     lend-on bytes 15 1 0 3 same gone tt refl refl (λ b o. tt) ⨾
     slice bytes (asMut bytes) 16 15 3 (fld 1 1 (owed-len bytes 0 3 (lease (κs .0) (qs .0))) refl) same gone refl refl (λ b o k. tt) ⨾
-    from (cx4 κs qs) (op2 11 u64 (mul unsigned) (cp 7 (sc u64)) (lit w64 208 tt) gone refl (λ u. refl) (λ u. tt) ⨾
+    from (cx4 κs qs) (op2 11 u64 (mul unsigned) (cp 7 (sc u64)) (lit w64 member-bytes tt) gone refl (λ u. refl) (λ u. tt) ⨾
     op2 17 sPtr offset (fld 4 0 (sh-ptr (R member) 2) refl) (cp 11 (sc u64)) gone refl (λ u. refl) (λ u. tt) ⨾
     op2 18 u64 (sub unsigned) (cp 10 (sc u64)) (cp 7 (sc u64)) gone refl (λ u. refl) (λ u. tt) ⨾
     part member 19 17 4 7 10 2 (λ i. i) (λ e. e) same same gone tt refl (λ b o. tt) ⨾

@@ -25,7 +25,7 @@ use borrow.Table.Rows.{sc-here}
 use Rattle.walk.proofs.Walk.{S, _⨾_, _▸_, _◂_, told, _then_, at, from, set, op2, lit, cp, fld, sc, gone, old, forget, falls, test, while, exits, ret, same, u64}
 use Rattle.walk.proofs.Slice.{R, kept, full, here, sh-ptr, sh-len, val-at, sh-at, sh-spares, sh-reads, sh-room, copy-val, elem-out, part, slice}
 use Rattle.walk.proofs.Fn.{Callee, Knows, Body, Answers, entry, callee, knows, call, meets}
-use Rattle.records.proofs.Structs.{member, storey}
+use Rattle.records.proofs.Structs.{member, storey, member-bytes, storey-bytes}
 use Rattle.storeys.proofs.verdict.no_verdict.Met as no-verdict-met
 use Rattle.storeys.proofs.verdict.no_verdict.Symbol as no-verdict-symbol
 use Rattle.storeys.proofs.verdict.no_verdict.Kinds as no-verdict-kinds
@@ -90,7 +90,7 @@ body κs qs bs =
     op2 12 sBool (lt unsigned) (cp 6 (sc u64)) (cp 11 (sc u64)) gone refl (λ u. refl) (λ u. tt) ⨾
     forget 11 (old u64) ▸
     test 12 (λ t. t) (sc sBool) (old sBool) refl (exits 1 tt)
-    (from (cx1 κs qs) (op2 11 u64 (mul unsigned) (cp 6 (sc u64)) (lit w64 24 tt) gone refl (λ u. refl) (λ u. tt) ⨾
+    (from (cx1 κs qs) (op2 11 u64 (mul unsigned) (cp 6 (sc u64)) (lit w64 storey-bytes tt) gone refl (λ u. refl) (λ u. tt) ⨾
     op2 13 sPtr offset (fld 2 0 (sh-ptr (R storey) 0) refl) (cp 11 (sc u64)) gone refl (λ u. refl) (λ u. tt) ⨾
     elem-out storey 14 13 2 6 0 (λ i. i) noStorey same same gone tt refl refl ⨾
     forget 11 (old u64) ▸
@@ -100,7 +100,7 @@ body κs qs bs =
     call the-count-of (λ s k. k .1) 11 [] (val-at 7 (λ x. x), tt) (λ s. ((here storey .is s, refl), tt)) gone tt refl ⨾
     op2 8 u64 (add unsigned) (cp 5 (sc u64)) (cp 11 (sc u64)) gone refl (λ u. refl) (λ u. tt) ⨾
     forget 11 (old u64) ▸
-    op2 11 u64 (mul unsigned) (cp 5 (sc u64)) (lit w64 208 tt) gone refl (λ u. refl) (λ u. tt) ⨾
+    op2 11 u64 (mul unsigned) (cp 5 (sc u64)) (lit w64 member-bytes tt) gone refl (λ u. refl) (λ u. tt) ⨾
     op2 15 sPtr offset (fld 3 0 (sh-ptr (R member) 1) refl) (cp 11 (sc u64)) gone refl (λ u. refl) (λ u. tt) ⨾
     op2 16 u64 (sub unsigned) (cp 8 (sc u64)) (cp 5 (sc u64)) gone refl (λ u. refl) (λ u. tt) ⨾
     part member 17 15 3 5 8 1 (λ i. i) (λ e. e) same same gone tt refl (λ b o. tt) ⨾
