@@ -18,8 +18,8 @@ use crate::units::Microradians;
 use crate::units::Ratio;
 use records::Member;
 use records::MemberCase;
-use records::numbers::in_case;
 use records::ZERO_FORCE;
+use records::numbers::in_case;
 use records::ranges::member_fault;
 
 pub struct Finding {
