@@ -6,7 +6,7 @@ use mathlib.Core.Bool.{true, false}
 use mathlib.Core.List.{[], _∷_}
 use mathlib.Core.Path.{_≡_, refl}
 use Rattle.records.specs.Notation.{everyBelow, anyBelow, first, listed, total, anyOf}
-use Rattle.records.specs.Records.{zeroForce, headerFault, storeyFault, memberFault}
+use Rattle.records.specs.Records.{zeroForce, headerFault, storeyFault, memberFault, inCase}
 use Rattle.records.specs.declared.Member.{Member}
 use Rattle.members.specs.declared.class.Class.the-variants.{ColumnA, ColumnC}
 use Rattle.members.specs.Class.{isWall, detailed, columnClass, wallClass, classOf}
@@ -98,7 +98,7 @@ unfoldable pub pairs : StoreyPairs one other
 unfolding listed membersBefore membersOf
 pairs = pair (_ ∷ []) [] (pair (member (wall 6 600) ∷ []) [] (record {}) (pair [] [] (record {}) none)) (pair [] [] (pair [] [] (record {}) none) none)
 
-worse : (g h : Given) → g .long ≡ h .long → g .short ≡ h .short → g .strengthened ≡ h .strengthened → (isWall (member g) ≡ true → g .shear ≡ h .shear) → g .nd ≤ h .nd → g .nk ≤ h .nk → g .ve ≤ h .ve → g .shear ≤ h .shear → g .damage ≤ h .damage → h .hoops ≤ g .hoops → (isWall (member g) ≡ true → classOf 90 (member g) ≡ classOf 90 (member h)) → (h .strengthened ≡ 1 → classOf 90 (member h) ≡ ColumnC → classOf 90 (member g) ≡ ColumnC) → AtLeastAsSevere SameClass 90 (member g) (member h)
+worse : (g h : Given) → g .long ≡ h .long → g .short ≡ h .short → g .strengthened ≡ h .strengthened → (isWall (inCase (member g)) ≡ true → g .shear ≡ h .shear) → g .nd ≤ h .nd → g .nk ≤ h .nk → g .ve ≤ h .ve → g .shear ≤ h .shear → g .damage ≤ h .damage → h .hoops ≤ g .hoops → (isWall (inCase (member g)) ≡ true → classOf 90 (inCase (member g)) ≡ classOf 90 (inCase (member h))) → (h .strengthened ≡ 1 → classOf 90 (inCase (member h)) ≡ ColumnC → classOf 90 (inCase (member g)) ≡ ColumnC) → AtLeastAsSevere SameClass 90 (member g) (member h)
 worse g h long short strengthened wall-shear nd nk ve shear damage hoops wall-class c =
     record {
       long = long;
@@ -161,7 +161,7 @@ met =
     }
 
 -- the classes of the column and its partner
-pub classes : (classOf 90 (member column) ≡ ColumnA) × (classOf 90 (member columnLater) ≡ ColumnC)
+pub classes : (classOf 90 (inCase (member column)) ≡ ColumnA) × (classOf 90 (inCase (member columnLater)) ≡ ColumnC)
 unfolding classOf detailed columnClass
 classes = (refl, refl)
 

@@ -8,6 +8,7 @@ use mathlib.Core.Path.{_≡_, refl, sym, subst}
 use lib.Dec.{ltb}
 use lib.ListN.{length}
 use borrow.Author.Tests.{leb-true, ltb-true}
+use Rattle.records.specs.Records.{inCase}
 use Rattle.records.specs.Notation.{pick}
 use Rattle.records.specs.Valid.{Valid}
 use Rattle.records.specs.declared.Member.{Member}
@@ -45,7 +46,7 @@ counted false b x y f h = omega arith
 
 -- what is known of a pair of members: they are good records, and the second is nowhere better
 abbrev pub Known : WallCondition → ℕ → Member → Member → Unit {0} → Type 0
-Known walls k m n u = (Valid m × Valid n) × AtLeastAsSevere walls k m n
+Known walls k m n u = (Valid (inCase m) × Valid (inCase n)) × AtLeastAsSevere walls k m n
 
 -- two storeys with the shear w, whose members are paired off by p
 module _ (walls : WallCondition) (rules : Rules) (good : Orderly rules) (falls : LimitsFall walls (rules .limits)) (k w : ℕ) (pos : 0 < k) {ms ns : List Member} (p : MemberPairs ms ns) where
@@ -71,8 +72,8 @@ module _ (walls : WallCondition) (rules : Rules) (good : Orderly rules) (falls :
     axial-carried : axialTotal ms ≤ axialTotal ns
     unfolding axialTotal
     axial-carried =
-        total-le (λ m. axialRatioD m .0) (λ m. axialRatioD m .0) p
-        (each (Known walls k) (λ m n u. axialRatioD m .0 ≤ axialRatioD n .0) (λ m n u h. nd-kept walls k m n (h .1) (rules .limits) (good .limits) pos (h .0 .0) (h .0 .1)) p known)
+        total-le (λ m. axialRatioD (inCase m) .0) (λ m. axialRatioD (inCase m) .0) p
+        (each (Known walls k) (λ m n u. axialRatioD (inCase m) .0 ≤ axialRatioD (inCase n) .0) (λ m n u h. nd-kept walls k m n (h .1) (rules .limits) (good .limits) pos (h .0 .0) (h .0 .1)) p known)
 
     over-shear-carried : (met : Bool) → overShear rules k met ms ≤ overShear rules k met ns
     unfolding overShear

@@ -1,6 +1,7 @@
 -- Demand 3 of the mission: a survey that is nowhere better never clears a member, a storey or a building. Its words, then the claim.
 use Rattle.records.specs.Notation.{ℕ, _≤_, Bool, true, false, List, _≡_, length, listed}
 use Rattle.checks.specs.Rows.{Storey, Member, storeyIn, membersOf}
+use Rattle.records.specs.{declared.MemberCase.MemberCase, Records.inCase}
 pub use Rattle.records.specs.Records.{Survey}
 use Rattle.members.specs.declared.finding.MemberAnswer.{MemberAnswer, the-variants.Judged as JudgedMember, the-variants.Refused as RefusedMember}
 use Rattle.storeys.specs.declared.{StoreyAnswer.StoreyAnswer, StoreyAnswer.the-variants.Judged as JudgedStorey, StoreyAnswer.the-variants.Refused as RefusedStorey, BuildingAnswer.BuildingAnswer, BuildingAnswer.the-variants.Judged as JudgedBuilding, BuildingAnswer.the-variants.Refused as RefusedBuilding}
@@ -57,7 +58,7 @@ StoreyPairs a b = Pairing (λ f g. MemberPairs (f .members) (g .members)) (store
 
 -- a condition on a wall and its partner, judged with the level k: "every wall has its partner's class" is the one of the mission
 abbrev pub WallCondition : Type 1
-WallCondition = ℕ → Member → Member → Type 0
+WallCondition = ℕ → MemberCase → MemberCase → Type 0
 
 abbrev pub SameClass : WallCondition
 SameClass k m n = classOf k m ≡ classOf k n
@@ -81,7 +82,7 @@ pub record AtLeastAsSevere (walls : WallCondition) (k : ℕ) (m n : Member) : Ty
   pub zone : m .zone ≡ n .zone
   pub strengthened : m .strengthened ≡ n .strengthened
   -- "wall shears": 24 of walls
-  pub wall-shear : isWall m ≡ true → m .case .shear ≡ n .case .shear
+  pub wall-shear : isWall (inCase m) ≡ true → m .case .shear ≡ n .case .shear
   -- "no axial load, moment demand, V_e, rotation, drift, .. column shear or damage is lower": 18 and 19, which are held in the order of the signed
   -- forces, 20, 22, 25, 26, 24 of columns and 17
   pub nd : m .nd ≤ n .nd
@@ -90,7 +91,7 @@ pub record AtLeastAsSevere (walls : WallCondition) (k : ℕ) (m n : Member) : Ty
   pub ve : m .case .ve ≤ n .case .ve
   pub rotation : m .case .rotation ≤ n .case .rotation
   pub drift : m .case .drift ≤ n .case .drift
-  pub column-shear : isWall m ≡ false → m .case .shear ≤ n .case .shear
+  pub column-shear : isWall (inCase m) ≡ false → m .case .shear ≤ n .case .shear
   pub damage : m .damage ≤ n .damage
   -- "no capacity, hoop area or reduction factor is higher": 21, 23, 12 and 16
   pub mp : n .case .mp ≤ m .case .mp
@@ -98,9 +99,9 @@ pub record AtLeastAsSevere (walls : WallCondition) (k : ℕ) (m n : Member) : Ty
   pub hoops : n .hoops ≤ m .hoops
   pub factor : n .factor ≤ m .factor
   -- "every wall has its partner's class", or what else is asked of walls
-  pub wall-class : isWall m ≡ true → walls k m n
+  pub wall-class : isWall (inCase m) ≡ true → walls k (inCase m) (inCase n)
   -- "no strengthened column of the second is C unless its partner is"
-  pub strengthened-c : isWall n ≡ false → n .strengthened ≡ 1 → classOf k n ≡ ColumnC → classOf k m ≡ ColumnC
+  pub strengthened-c : isWall (inCase n) ≡ false → n .strengthened ≡ 1 → classOf k (inCase n) ≡ ColumnC → classOf k (inCase m) ≡ ColumnC
 
 -- of two storeys that are partners, and their members' pairs
 pub record AtLeastAsSevereStorey (walls : WallCondition) (k : ℕ) (f g : StoreyMembers) (ms : MemberPairs (f .members) (g .members)) : Type 0 where

@@ -3,6 +3,7 @@ use Prim.Native.Nat.{ℕ, _≤_, _<_}
 use mathlib.Core.Bool.{Bool, true, _&&_}
 use mathlib.Core.Path.{_≡_}
 use lib.Dec.{leb, ltb}
+use Rattle.records.specs.Records.{inCase}
 use Rattle.records.specs.Valid.{Valid}
 use Rattle.records.specs.declared.Member.{Member}
 use Rattle.members.specs.declared.tables.LimitSet.{LimitSet}
@@ -19,4 +20,4 @@ orderly rules = orderedSet (rules .limits) && (ltb (rules .share .ends .r1) (rul
 -- a condition under which, by a set, no wall has a limit above its partner's
 abbrev pub LimitsFall : WallCondition → LimitSet → Type 0
 LimitsFall walls set =
-    (k : ℕ) (m n : Member) → 0 < k → Valid m → Valid n → AtLeastAsSevere walls k m n → isWall m ≡ true → (mLimit set k n .0 ≤ mLimit set k m .0) × (rotationLimit set k n .0 ≤ rotationLimit set k m .0)
+    (k : ℕ) (m n : Member) → 0 < k → Valid (inCase m) → Valid (inCase n) → AtLeastAsSevere walls k m n → isWall (inCase m) ≡ true → (mLimit set k (inCase n) .0 ≤ mLimit set k (inCase m) .0) × (rotationLimit set k (inCase n) .0 ≤ rotationLimit set k (inCase m) .0)

@@ -5,7 +5,7 @@ use mathlib.Core.Bool.{Bool, true, false, _||_}
 use mathlib.Core.Path.{_≡_, refl}
 use lib.Dec.{eqb}
 use borrow.Author.Tests.{eqb-true}
-use Rattle.records.specs.declared.Member.{Member}
+use Rattle.records.specs.declared.MemberCase.{MemberCase}
 use Rattle.members.specs.declared.class.Class.{Class}
 use Rattle.members.specs.declared.finding.Finding.{Finding}
 use Rattle.members.specs.declared.limits.Ratios.{Ratios}
@@ -20,7 +20,7 @@ use Rattle.members.specs.Finding.{axialRatioD, momentRatio, mLimit, rota
 use Rattle.members.specs.Assembly.{ratios}
 use Rattle.members.proofs.Rounding.{microradians}
 
-module _ (s : LimitSet) (k : ℕ) (met : Bool) (m : Member) where
+module _ (s : LimitSet) (k : ℕ) (met : Bool) (m : MemberCase) where
   pub assembled : {class : Class} {at : Ratios} {ratio limit nd : Ratio} {rotation allowed : Microradians} {dropped over : Bool} → class ≡ classOf k m → at ≡ ratios m → ratio ≡ momentRatio k m → rotation ≡ microradians (m .case .rotation) → limit ≡ mLimitAt s class (m .zone) (m .strengthened) (at .n .0) (at .v .0) (at .rho .0) → allowed ≡ rotationLimitAt s class (m .zone) (m .strengthened) (m .factor) (at .n .0) (at .v .0) (at .rho .0) → dropped ≡ mDropped k met m → over ≡ exceeds dropped (ratio .0) (limit .0) (rotation .0) (allowed .0) → nd ≡ axialRatioD m → _≡_ {A = Finding} (record { class = class; m = ratio; «m_limit» = limit; rotation = rotation; «rotation_limit» = allowed; over = over; nd = nd }) (findingBy s k met m)
   unfolding findingBy isOver mLimit rotationLimit ratios
   assembled e1 e2 e3 e4 e5 e6 e7 e8 e9 = rw (e9, e8, e7, e6, e5, e4, e3, e2, e1)

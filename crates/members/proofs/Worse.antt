@@ -9,7 +9,7 @@ use borrow.Author.Tests.{leb-true, ltb-true, le-leb, lt-ltb}
 use Rattle.records.proofs.Below.{and-left, and-right}
 use Rattle.records.specs.Notation.{pick}
 use Rattle.records.specs.Valid.{Valid}
-use Rattle.records.specs.declared.Member.{Member}
+use Rattle.records.specs.declared.MemberCase.{MemberCase}
 use Rattle.members.specs.declared.class.Class.{Class}
 use Rattle.members.specs.declared.class.Class.the-variants.{ColumnA, ColumnB, ColumnC}
 use Rattle.members.specs.declared.tables.LimitSet.{LimitSet}
@@ -21,7 +21,7 @@ use Rattle.members.proofs.Order.{Later, same, a-then-b, a-then-c, b-the
 use Rattle.members.proofs.Rounding.{axial-mono, moment-mono, stress-mono, hoops-mono}
 
 -- m' beside m: equal sections, hoop spacings, strengths and marks; no demand lower, no capacity, hoop area or factor higher
-pub record Worse (m m' : Member) : Type 0 where
+pub record Worse (m m' : MemberCase) : Type 0 where
   pub long : m .long ≡ m' .long
   pub short : m .short ≡ m' .short
   pub area : m .area ≡ m' .area
@@ -85,7 +85,7 @@ column-later d d' k {ve} {ve'} {vr} {vr'} f h g =
     (leb-back (omega arith) (mul-le-mul-left (7 * k) g))
     (leb-back (omega arith) (mul-le-mul-left (11 * k) g))
 
-module _ (m m' : Member) (w : Worse m m') where
+module _ (m m' : MemberCase) (w : Worse m m') where
   pub detailed-lost : detailed m' ≡ true → detailed m ≡ true
   unfolding detailed
   detailed-lost e =
@@ -131,7 +131,7 @@ exceeds-stays d d' {m} {m'} {l} {l'} {r} {r'} {a} {a'} f hm hl hr ha e =
     over-tests d d' (ltb l m) (ltb l' m') (ltb a r) (ltb a' r') f (ltb-back hl hm) (ltb-back ha hr) e
 
 -- both limits of the second are at most those of the first
-pub record Fallen (s : LimitSet) (k : ℕ) (m m' : Member) : Type 0 where
+pub record Fallen (s : LimitSet) (k : ℕ) (m m' : MemberCase) : Type 0 where
   pub moment : mLimit s k m' .0 ≤ mLimit s k m .0
   pub rotation : rotationLimit s k m' .0 ≤ rotationLimit s k m .0
 
@@ -143,7 +143,7 @@ module _ (s : LimitSet) (o : orderedSet s ≡ true) {n n' v v' ρ ρ' : ℕ} (r 
   rotation-worse : (factor factor' : ℕ) → factor' ≤ factor → rotationLimitAt s q' zone' st' factor' n' v' ρ' .0 ≤ rotationLimitAt s q zone st factor n v ρ .0
   rotation-worse factor factor' f = rw (← ez, ← es) (rotation-falls s o r l zone st h factor factor' f)
 
-module _ (s : LimitSet) (o : orderedSet s ≡ true) (k : ℕ) (level : 0 < k) (m m' : Member) (v : Valid m) (v' : Valid m') (w : Worse m m') where
+module _ (s : LimitSet) (o : orderedSet s ≡ true) (k : ℕ) (level : 0 < k) (m m' : MemberCase) (v : Valid m) (v' : Valid m') (w : Worse m m') where
   ratios-worse : Ratios≤ (axialRatio m .0) (axialRatio m' .0) (wallStress m .0) (wallStress m' .0) (hoopRatio m .0) (hoopRatio m' .0)
   ratios-worse =
       record {
@@ -173,7 +173,7 @@ module _ (s : LimitSet) (o : orderedSet s ≡ true) (k : ℕ) (level : 0 < k) (m
   same-class-falls e = limits-fall (rw e same) (λ t c. e ∙ c)
 
 -- a member over in the first is over in the second, where the limits are at most as high
-module _ (s : LimitSet) (k : ℕ) (level : 0 < k) (m m' : Member) (v' : Valid m') (w : Worse m m') where
+module _ (s : LimitSet) (k : ℕ) (level : 0 < k) (m m' : MemberCase) (v' : Valid m') (w : Worse m m') where
   pub over-stays : (met : Bool) → Fallen s k m m' → isOver s k met m ≡ true → isOver s k met m' ≡ true
   unfolding isOver
   over-stays met l e =

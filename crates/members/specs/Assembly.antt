@@ -1,7 +1,7 @@
 -- The ratios of a member that its limits are taken at, as the code hands them on.
-use Rattle.records.specs.declared.Member.{Member}
+use Rattle.records.specs.declared.MemberCase.{MemberCase}
 use Rattle.members.specs.declared.limits.Ratios.{Ratios}
 use Rattle.members.specs.Finding.{axialRatio, wallStress, hoopRatio}
 
-unfoldable pub ratios : Member → Ratios
+unfoldable pub ratios : MemberCase → Ratios
 ratios m = record { n = axialRatio m; v = wallStress m; rho = hoopRatio m }

@@ -1,6 +1,6 @@
 -- What a member is found to be (document 01, "Member", "Refusals as returned").
 use Rattle.records.specs.Notation.{ℕ, _-_, _*_, Bool, true, false, not, _&&_, _||_, List, [], _∷_, ltb, eqb, pick}
-use Rattle.records.specs.{declared.Member.Member, Records.zeroForce, Records.memberFault}
+use Rattle.records.specs.{declared.Member.Member, declared.MemberCase.MemberCase, Records.zeroForce, Records.inCase, Records.memberFault}
 use Rattle.members.specs.Units.{Ratio, HoopRatio, Microradians, ratioUp, hoopDown}
 use Rattle.members.specs.Class.{code, isWall, shearBelow, classOf}
 use Rattle.members.specs.{Tables.LimitSet, Tables.published, Limits.mLimitAt, Limits.rotationLimitAt}
@@ -27,40 +27,40 @@ unfoldable pub hoops : ℕ → ℕ → ℕ → HoopRatio
 hoops area spacing core = hoopDown area (spacing * core)
 
 -- n; n_D, "likewise from N_D"; m; v; ρ of a member
-abbrev pub axialRatio : Member → Ratio
+abbrev pub axialRatio : MemberCase → Ratio
 axialRatio m = axial (m .case .nk) (m .fcm) (m .area)
 
-abbrev pub axialRatioD : Member → Ratio
+abbrev pub axialRatioD : MemberCase → Ratio
 axialRatioD m = axial (m .nd) (m .fcm) (m .area)
 
-abbrev pub momentRatio : ℕ → Member → Ratio
+abbrev pub momentRatio : ℕ → MemberCase → Ratio
 momentRatio k m = moment k (m .case .me) (m .case .mp)
 
-abbrev pub wallStress : Member → Ratio
+abbrev pub wallStress : MemberCase → Ratio
 wallStress m = stress (m .case .ve) (m .short) (m .depth) (m .fctm)
 
-abbrev pub hoopRatio : Member → HoopRatio
+abbrev pub hoopRatio : MemberCase → HoopRatio
 hoopRatio m = hoops (m .hoops) (m .spacing) (m .core)
 
 -- the limits of a member: those of its class at its ratios and marks
-unfoldable pub mLimit : LimitSet → ℕ → Member → Ratio
+unfoldable pub mLimit : LimitSet → ℕ → MemberCase → Ratio
 mLimit s k m = mLimitAt s (classOf k m) (m .zone) (m .strengthened) (axialRatio m .0) (wallStress m .0) (hoopRatio m .0)
 
-unfoldable pub rotationLimit : LimitSet → ℕ → Member → Microradians
+unfoldable pub rotationLimit : LimitSet → ℕ → MemberCase → Microradians
 rotationLimit s k m = rotationLimitAt s (classOf k m) (m .zone) (m .strengthened) (m .factor) (axialRatio m .0) (wallStress m .0) (hoopRatio m .0)
 
 -- "The m test is dropped for a wall with drift < 7,500 and 100 × V_e < k × V_r, in a storey whose walls' V total ≥ 0.40 × storey shear", which `met` says of the member's storey
-unfoldable pub mDropped : ℕ → Bool → Member → Bool
+unfoldable pub mDropped : ℕ → Bool → MemberCase → Bool
 mDropped k met m = met && (isWall m && (ltb (m .case .drift) 7_500 && shearBelow k (m .case .ve) (m .case .vr)))
 
 -- "A member is over when m or rotation exceeds its limit", m only where its test is not dropped
 abbrev pub exceeds : Bool → ℕ → ℕ → ℕ → ℕ → Bool
 exceeds dropped m limit rotation rotationLimit = (not dropped && ltb limit m) || ltb rotationLimit rotation
 
-unfoldable pub isOver : LimitSet → ℕ → Bool → Member → Bool
+unfoldable pub isOver : LimitSet → ℕ → Bool → MemberCase → Bool
 isOver s k met m = exceeds (mDropped k met m) (momentRatio k m .0) (mLimit s k m .0) (m .case .rotation) (rotationLimit s k m .0)
 
-unfoldable pub findingBy : LimitSet → ℕ → Bool → Member → Finding
+unfoldable pub findingBy : LimitSet → ℕ → Bool → MemberCase → Finding
 findingBy s k met m =
     record {
       class = classOf k m;
@@ -78,10 +78,10 @@ knowledge k = eqb k 90 || eqb k 100
 
 -- the answer on one member: k's 3, then the record's 3 and 4, then the finding
 unfoldable pub answerBy : LimitSet → ℕ → Bool → Member → MemberAnswer
-answerBy s k met m = pick (knowledge k) (pick (eqb (memberFault m) 0) (Judged (findingBy s k met m)) (Refused (memberFault m))) (Refused 3)
+answerBy s k met m = pick (knowledge k) (pick (eqb (memberFault m) 0) (Judged (findingBy s k met (inCase m))) (Refused (memberFault m))) (Refused 3)
 
 -- by the published set
-abbrev pub finding : ℕ → Bool → Member → Finding
+abbrev pub finding : ℕ → Bool → MemberCase → Finding
 finding = findingBy published
 
 -- what an answer is in the paper's words: the refusal's number, 0 where there is none; its line, 0 on records; and the values found

@@ -3,7 +3,7 @@ ghost use mathlib.Core.Path.{_≡_};
 ghost use Prim.Native.Nat.{_≤_};
 ghost use Rattle.records.specs.Valid.{Valid};
 ghost use Rattle.members.specs.Class.{code, isWall, hoopsHold, detailed, shearBelow, columnClass, wallClass, classOf};
-use records::Member;
+use records::MemberCase;
 
 pub enum Class {
     ColumnA,
@@ -29,7 +29,7 @@ impl Class {
 }
 
 // A wall, whatever the record holds: the long side is at least five times the short one.
-pub fn is_wall(m: Member) -> bool
+pub fn is_wall(m: MemberCase) -> bool
     ensures { λ r. ⌜ r ≡ isWall m ⌝ }
 {
     m.short <= m.long / 5
@@ -42,7 +42,7 @@ fn hoops_hold(hoops: u64, fyw: u64, fcm: u64, spacing: u64, core: u64) -> bool
     6 * fcm * spacing * core <= 100 * hoops * fyw
 }
 
-fn is_detailed(m: Member) -> bool
+fn is_detailed(m: MemberCase) -> bool
     requires { ⌜ Valid m ⌝ }
     ensures { λ r. ⌜ r ≡ detailed m ⌝ }
 {
@@ -96,7 +96,7 @@ fn wall_class(height: u64, long: u64, k: u64, ve: u64, vr: u64) -> Class
 }
 
 // The class of a member at the knowledge level k.
-pub(crate) fn class_of(k: u64, m: Member) -> Class
+pub(crate) fn class_of(k: u64, m: MemberCase) -> Class
     requires { ⌜ (k ≤ 100) × Valid m ⌝ }
     ensures { λ r. ⌜ r ≡ classOf k m ⌝ }
 {

@@ -17,7 +17,9 @@ use crate::units::HoopRatio;
 use crate::units::Microradians;
 use crate::units::Ratio;
 use records::Member;
+use records::MemberCase;
 use records::ZERO_FORCE;
+use records::numbers::in_case;
 use records::ranges::member_fault;
 
 pub struct Finding {
@@ -76,7 +78,7 @@ fn hoop_ratio(area: u64, spacing: u64, core: u64) -> HoopRatio
     HoopRatio::down(area, spacing * core)
 }
 
-fn ratios(m: Member) -> Ratios
+fn ratios(m: MemberCase) -> Ratios
     requires { ⌜ Valid m ⌝ }
     ensures { λ r. ⌜ r ≡ ratios m ⌝ }
 {
@@ -89,7 +91,7 @@ fn ratios(m: Member) -> Ratios
 }
 
 // The m test is dropped for a wall of little drift and shear in a storey that meets the 0.40 condition.
-fn m_dropped(k: u64, met: bool, m: Member) -> bool
+fn m_dropped(k: u64, met: bool, m: MemberCase) -> bool
     requires { ⌜ (k ≤ 100) × Valid m ⌝ }
     ensures { λ r. ⌜ r ≡ mDropped k met m ⌝ }
 {
@@ -124,7 +126,7 @@ fn exceeds(
 }
 
 // A member by a set of limits.
-fn judge(s: LimitSet, k: u64, met: bool, m: Member) -> Finding
+fn judge(s: LimitSet, k: u64, met: bool, m: MemberCase) -> Finding
     requires { ⌜ SizedSet s × (1 ≤ k) × (k ≤ 100) × Valid m ⌝ }
     ensures { λ r. ⌜ r ≡ findingBy s k met m ⌝ }
 {
@@ -169,7 +171,7 @@ pub fn judge_member(k: u64, met: bool, m: Member) -> MemberAnswer
         return MemberAnswer::Refused(fault);
     }
     let s = LimitSet::published();
-    MemberAnswer::Judged(judge(s, k, met, m))
+    MemberAnswer::Judged(judge(s, k, met, in_case(m)))
 }
 
 // A mark as it is printed, 0 or 1.

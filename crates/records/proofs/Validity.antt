@@ -12,7 +12,7 @@ use Rattle.records.specs.declared.Storey.{Storey}
 use Rattle.records.specs.declared.Member.{Member}
 use Rattle.records.specs.declared.Tag.{Tag}
 use Rattle.records.specs.declared.Tag.the-variants.{B, S, M}
-use Rattle.records.specs.Records.{fields, inRange, headerValues, storeyValues, memberValues, headerFault, storeyFault, memberFault}
+use Rattle.records.specs.Records.{fields, inRange, headerValues, storeyValues, memberValues, inCase, headerFault, storeyFault, memberFault}
 use Rattle.records.specs.Valid.{Valid}
 use Rattle.records.proofs.Below.{and-left, and-right, every-at}
 
@@ -27,7 +27,7 @@ most a b v e = leb-true v b (and-right (leb a v) (leb v b) e)
 least : (a b v : ℕ) → (leb a v && leb v b) ≡ true → a ≤ v
 least a b v e = leb-true a v (and-left (leb a v) (leb v b) e)
 
-pub valid : (m : Member) → memberFault m ≡ 0 → Valid m
+pub valid : (m : Member) → memberFault m ≡ 0 → Valid (inCase m)
 unfolding memberFault
 valid m e =
     let o = clear (everyBelow (inRange M (memberValues m)) (fields M)) _ 3 e (omega arith) in

@@ -1,6 +1,6 @@
 -- What makes a record good, and which refusal comes first (document 01, "The survey record", "Refusals as returned").
 use Rattle.records.specs.Notation.{ℕ, _+_, _-_, Bool, _&&_, _||_, List, [], _∷_, leb, eqb, getD, pick, everyBelow, anyBelow}
-use Rattle.records.specs.declared.{Header.Header, Storey.Storey, Member.Member, Tag.Tag, Tag.the-variants.B, Tag.the-variants.S, Tag.the-variants.M}
+use Rattle.records.specs.declared.{Header.Header, Storey.Storey, Member.Member, MemberCase.MemberCase, Tag.Tag, Tag.the-variants.B, Tag.the-variants.S, Tag.the-variants.M}
 
 -- a survey: "a header with its storeys and members as records"
 pub record Survey : Type 0 where
@@ -106,6 +106,31 @@ memberBy f =
       damage = f 16;
       nd = f 17;
       case = record { nk = f 18; me = f 19; mp = f 20; ve = f 21; vr = f 22; shear = f 23; rotation = f 24; drift = f 25 };
+    }
+
+-- a member in its load case: what is judged
+abbrev pub inCase : Member → MemberCase
+inCase m =
+    record {
+      number = m .number;
+      long = m .long;
+      short = m .short;
+      area = m .area;
+      fcm = m .fcm;
+      fctm = m .fctm;
+      fyw = m .fyw;
+      depth = m .depth;
+      height = m .height;
+      spacing = m .spacing;
+      core = m .core;
+      hoops = m .hoops;
+      hooks = m .hooks;
+      zone = m .zone;
+      strengthened = m .strengthened;
+      factor = m .factor;
+      damage = m .damage;
+      nd = m .nd;
+      case = m .case;
     }
 
 -- the first refusal of a record by itself, 0 where there is none.

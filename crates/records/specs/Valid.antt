@@ -1,8 +1,8 @@
--- The bounds of a good member, as facts (document 01, "The survey record"). `valid` of proofs/ derives them from the member's check.
+-- The bounds of a good member in its load case, as facts (document 01, "The survey record"). `valid` of proofs/ derives them from the member's check.
 use Prim.Native.Nat.{_≤_}
-use Rattle.records.specs.declared.Member.{Member}
+use Rattle.records.specs.declared.MemberCase.{MemberCase}
 
-pub record Valid (m : Member) : Type 0 where
+pub record Valid (m : MemberCase) : Type 0 where
   pub number : m .number ≤ 9_999_999
   pub long : m .long ≤ 99_999
   pub long-least : 1 ≤ m .long

@@ -88,6 +88,29 @@ pub struct LoadCase {
     pub drift: u64,
 }
 
+// A member in one load case: what is judged. Its fields are those of the member, with the case.
+pub struct MemberCase {
+    pub number: u64,
+    pub long: u64,
+    pub short: u64,
+    pub area: u64,
+    pub fcm: u64,
+    pub fctm: u64,
+    pub fyw: u64,
+    pub depth: u64,
+    pub height: u64,
+    pub spacing: u64,
+    pub core: u64,
+    pub hoops: u64,
+    pub hooks: u64,
+    pub zone: u64,
+    pub strengthened: u64,
+    pub factor: u64,
+    pub damage: u64,
+    pub nd: u64,
+    pub case: LoadCase,
+}
+
 // The tag of a line.
 pub enum Tag {
     B,

@@ -1,11 +1,12 @@
-// The record of some numbers in the order of its line's fields, and a storey's count.
+// The record of some numbers in the order of its line's fields, a storey's count, and a member in its load case.
 ghost use mathlib.Core.Path.{_≡_};
 ghost use Prim.Native.Nat.{ℕ};
 ghost use lib.ListN.{getD};
-ghost use Rattle.records.specs.Records.{headerBy, storeyBy, memberBy};
+ghost use Rattle.records.specs.Records.{headerBy, storeyBy, memberBy, inCase};
 use crate::Header;
 use crate::LoadCase;
 use crate::Member;
+use crate::MemberCase;
 use crate::Storey;
 use crate::ranges::FIELDS_MOST;
 
@@ -73,4 +74,32 @@ pub fn count_of(r: Storey) -> usize
     ensures { λ n. ⌜ n ≡ r .count ⌝ }
 {
     r.count as usize
+}
+
+// A member in its load case.
+pub fn in_case(m: Member) -> MemberCase
+    ensures { λ r. ⌜ r ≡ inCase m ⌝ }
+{
+    let case = m.case;
+    MemberCase {
+        number: m.number,
+        long: m.long,
+        short: m.short,
+        area: m.area,
+        fcm: m.fcm,
+        fctm: m.fctm,
+        fyw: m.fyw,
+        depth: m.depth,
+        height: m.height,
+        spacing: m.spacing,
+        core: m.core,
+        hoops: m.hoops,
+        hooks: m.hooks,
+        zone: m.zone,
+        strengthened: m.strengthened,
+        factor: m.factor,
+        damage: m.damage,
+        nd: m.nd,
+        case,
+    }
 }

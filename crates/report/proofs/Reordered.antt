@@ -6,7 +6,7 @@ use mathlib.Core.List.{List, [], _∷_, _++_, map, append-assoc, List·Permᴰ, 
 use mathlib.Core.Path.{_≡_, refl, ap, _∙_}
 use lib.Dec.{eqb}
 use lib.ListN.{length}
-use Rattle.records.specs.Records.{surveyOf}
+use Rattle.records.specs.Records.{surveyOf, inCase}
 use Rattle.records.specs.Notation.{anyBelow, total, anyOf}
 use Rattle.records.specs.declared.Header.{Header}
 use Rattle.records.specs.declared.Storey.{Storey}
@@ -23,7 +23,7 @@ joined [] = []
 joined (t ∷ ts) = t ++ joined ts
 
 abbrev pub linesOf : ℕ → Bool → List Member → List (List ℕ)
-linesOf k met ms = map (λ m. memberLine (m .number) (finding k met m)) ms
+linesOf k met ms = map (λ m. memberLine (m .number) (finding k met (inCase m))) ms
 
 -- a storey's part for its members in two orders: each member's `M` line, in another order, and the same last line
 pub record OtherOrder (k : ℕ) (s : Storey) (ms ns : List Member) : Type 0 where
@@ -77,7 +77,7 @@ module _ (k : ℕ) (s : Storey) (ms ns : List Member) (p : List·Permᴰ ms ns) 
 
   axial-same : axialTotal ms ≡ axialTotal ns
   unfolding axialTotal
-  axial-same = total-same (λ m. axialRatioD m .0) p
+  axial-same = total-same (λ m. axialRatioD (inCase m) .0) p
 
   over-same : (met : Bool) → overShear publishedRules k met ms ≡ overShear publishedRules k met ns
   unfolding overShear
@@ -112,7 +112,7 @@ module _ (k : ℕ) (s : Storey) (ms ns : List Member) (p : List·Permᴰ ms ns) 
       record {
         met = kept;
         last = storeyLine (s .number) (storeyFinding publishedRules k (s .shear) ns);
-        reordered = map-same (λ m. memberLine (m .number) (finding k kept m)) p;
+        reordered = map-same (λ m. memberLine (m .number) (finding k kept (inCase m))) p;
         first-is = rw (finding-same, walls-same, lines-joined k kept ms);
         second-is = rw (lines-joined k kept ns);
       }

@@ -9,7 +9,7 @@ use lib.ListN.{length, drop, length-append, drop-of-length-le}
 use lib.Seq.{drop-cons}
 use Rattle.records.specs.Notation.{pick}
 use Rattle.records.specs.Blank.{noMember}
-use Rattle.records.specs.Records.{storeyFault}
+use Rattle.records.specs.Records.{storeyFault, inCase}
 use Rattle.records.specs.declared.Storey.{Storey}
 use Rattle.records.specs.declared.Member.{Member}
 use Rattle.records.proofs.Validity.{count-most}
@@ -47,7 +47,7 @@ pub length-member-lines : (k : ℕ) (met : Bool) (ms : List Member) → length (
 unfolding memberLines
 length-member-lines k met [] = refl
 length-member-lines k met (m ∷ ms) =
-    omega (arith, length-append (memberLine (m .number) (finding k met m)) (memberLines k met ms), length-member-line (m .number) (finding k met m), length-member-lines k met ms)
+    omega (arith, length-append (memberLine (m .number) (finding k met (inCase m))) (memberLines k met ms), length-member-line (m .number) (finding k met (inCase m)), length-member-lines k met ms)
 
 pub length-storey-lines : (k : ℕ) (s : Storey) (ms : List Member) → length (storeyLines k s ms) ≡ memberLineSize * length ms + storeyLineSize
 unfolding storeyLines
@@ -65,17 +65,17 @@ module _ (k : ℕ) (met : Bool) (rows : List Member) (at : ℕ) (before : List �
     pub lines : stamped out (r .at) (memberLines k met (drop j rows)) ≡ stamped before at (memberLines k met rows)
 
   module _ (out : List ℕ) (r : PrintedMembers) (j : ℕ) (u : Turn out r j) where
-    pub turn-next : (turned : List ℕ) (z : PrintedMembers) → Rows rows → j < length rows → z .at ≡ r .at + memberLineSize → z .tally ≡ added (r .tally) k met (memberIn rows j) → turned ≡ stamped out (r .at) (memberLine (memberIn rows j .number) (finding k met (memberIn rows j))) → length turned ≡ length out → Turn turned z (j + 1)
+    pub turn-next : (turned : List ℕ) (z : PrintedMembers) → Rows rows → j < length rows → z .at ≡ r .at + memberLineSize → z .tally ≡ added (r .tally) k met (memberIn rows j) → turned ≡ stamped out (r .at) (memberLine (memberIn rows j .number) (finding k met (inCase (memberIn rows j)))) → length turned ≡ length out → Turn turned z (j + 1)
     unfolding memberLines
     turn-next turned z g l e t b s =
         let m = memberIn rows j in
-        let line = memberLine (m .number) (finding k met m) in
+        let line = memberLine (m .number) (finding k met (inCase m)) in
         record {
           place = omega (arith, e, u .place);
           size = s ∙ u .size;
           totals = going-next k met rows g (r .tally) j (u .totals) l (z .tally) t;
           lines =
-              rw (b, stamped-both line (memberLines k met (drop (j + 1) rows)) out (r .at) (z .at) (omega (arith, e, length-member-line (m .number) (finding k met m))), add-one j)
+              rw (b, stamped-both line (memberLines k met (drop (j + 1) rows)) out (r .at) (z .at) (omega (arith, e, length-member-line (m .number) (finding k met (inCase m)))), add-one j)
               (rw (drop-cons rows j noMember l) at (u .lines));
         }
 

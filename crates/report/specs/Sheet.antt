@@ -1,4 +1,5 @@
 -- The printed sheet and the report call (document 01, "The printed sheet", "Refusals as returned"): any survey, and a buffer of any length.
+use Rattle.records.specs.Records.{inCase}
 use Rattle.records.specs.Notation.{ℕ, zero, suc, Bool, List, [], _∷_, _++_, leb, eqb, length, drop, pick, inOrder}
 use Rattle.checks.specs.Rows.{Storey, Member, Survey, storeyIn, membersOf, recordsFault}
 use Rattle.members.specs.{declared.finding.Finding.Finding, Class.code, Finding.finding, Finding.flag, Finding.Returned, Finding.found, Finding.refused}
@@ -26,7 +27,7 @@ refusalLine refusal place = line (69 ∷ []) (refusal ∷ place ∷ [])
 -- the `M` lines of some members, judged with k and the 0.40 condition of their storey
 unfoldable pub memberLines : ℕ → Bool → List Member → List ℕ
 memberLines k met [] = []
-memberLines k met (m ∷ ms) = memberLine (m .number) (finding k met m) ++ memberLines k met ms
+memberLines k met (m ∷ ms) = memberLine (m .number) (finding k met (inCase m)) ++ memberLines k met ms
 
 -- "Per storey, its `M` lines", "Then `S`"
 unfoldable pub storeyLines : ℕ → Storey → List Member → List ℕ

@@ -3,6 +3,7 @@ ghost use mathlib.Core.Bool.{_||_};
 ghost use mathlib.Core.Path.{_≡_};
 ghost use Prim.Native.Nat.{_+_, _≤_};
 ghost use lib.ListN.{length};
+ghost use Rattle.records.specs.Records.{inCase};
 ghost use Rattle.members.specs.Finding.{finding};
 ghost use Rattle.storeys.specs.Building.{tilted};
 ghost use Rattle.storeys.specs.Totals.{foundBy};
@@ -90,7 +91,7 @@ pub(crate) fn put_member(
     requires { ⌜ AddsUp (r .tally) k m × (r .at + memberLineSize ≤ length (now out)) ⌝ }
     ensures { λ z. ⌜ z .at ≡ r .at + memberLineSize ⌝ }
     ensures { λ z. ⌜ z .tally ≡ added (r .tally) k met m ⌝ }
-    ensures { λ _. ⌜ now (out .exit) ≡ stamped (now (out .entry)) (r .at) (memberLine (m .number) (finding k met m)) ⌝ }
+    ensures { λ _. ⌜ now (out .exit) ≡ stamped (now (out .entry)) (r .at) (memberLine (m .number) (finding k met (inCase m))) ⌝ }
 {
     match judge_member(k, met, m) {
         MemberAnswer::Judged(f) => {

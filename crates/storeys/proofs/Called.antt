@@ -8,7 +8,7 @@ use lib.Dec.{leb, eqb}
 use lib.ListN.{length, getD}
 use borrow.Author.Tests.{ne-eqb, eqb-true, leb-true, le-leb, le-ltb, eq-eqb}
 use Rattle.records.specs.Notation.{pick, everyBelow, inOrder, total}
-use Rattle.records.specs.Records.{storeyFault, storeyValues, inRange}
+use Rattle.records.specs.Records.{storeyFault, storeyValues, inRange, inCase}
 use Rattle.records.specs.declared.Storey.{Storey}
 use Rattle.records.specs.declared.Member.{Member}
 use Rattle.records.specs.declared.Tag.the-variants.{S}
@@ -51,7 +51,7 @@ walls-from t [] h l = omega arith
 walls-from t (m ∷ ms) h l =
     let a : m .case .shear ≤ shearMost = h 0 (omega arith) in
     let b : t ≤ totalMost = omega (arith, l) in
-    let c = pick-most (isWall m) (m .case .shear) shearMost a in
+    let c = pick-most (isWall (inCase m)) (m .case .shear) shearMost a in
     rw (le-leb t totalMost b, le-leb (m .case .shear) shearMost a)
     (walls-from (t + wallShear m) ms (λ j i. h (suc j) (omega arith)) (omega (arith, l, c)) ∙ omega arith)
 

@@ -10,7 +10,7 @@ use lib.ListN.{length, drop, getD, drop-of-length-le}
 use lib.Seq.{drop-cons}
 use borrow.Author.Tests.{leb-true}
 use Rattle.records.specs.Notation.{pick, total, anyOf}
-use Rattle.records.specs.Records.{memberFault}
+use Rattle.records.specs.Records.{memberFault, inCase}
 use Rattle.records.specs.Valid.{Valid}
 use Rattle.records.specs.declared.Member.{Member}
 use Rattle.records.proofs.Firsts.{first-clear, pick-clear}
@@ -54,7 +54,7 @@ module _ (rows : List Member) (g : Rows rows) (j : ℕ) (h : j < length rows) wh
   unfolding memberRowsFault rowFault
   row-good = pick-clear (memberFault (memberIn rows j)) _ (first-clear 0 (λ r. r) (rowFault rows) (length rows) j (g .good) h)
 
-  pub row-valid : Valid (memberIn rows j)
+  pub row-valid : Valid (inCase (memberIn rows j))
   row-valid = valid (memberIn rows j) row-good
 
 -- ---- the walls' V
@@ -72,7 +72,7 @@ unfolding wallsSuffice
 suffice-is rows w t z e q = q ∙ rw e
 
 pub wall-most : (t r : ℕ) (m : Member) → t ≤ totalMost + shearMost → r ≡ addedWall t m → r ≤ totalMost + shearMost
-wall-most t r m l q = rw q (go (leb t totalMost) (leb (m .case .shear) shearMost) (isWall m) refl refl)
+wall-most t r m l q = rw q (go (leb t totalMost) (leb (m .case .shear) shearMost) (isWall (inCase m)) refl refl)
   where
     go : (a b w : Bool) → leb t totalMost ≡ a → leb (m .case .shear) shearMost ≡ b → pick (a && b) (t + pick w (m .case .shear) 0) t ≤ totalMost + shearMost
     go true true true e f = omega (arith, leb-true t totalMost e, leb-true (m .case .shear) shearMost f)
@@ -133,9 +133,9 @@ module _ (k : ℕ) (met : Bool) (rows : List Member) where
     weight-most (suc (suc (suc (suc zero)))) l = omega arith
     weight-most (suc (suc (suc (suc (suc d))))) l = let z : ⊥ = omega arith in absurd z
 
-    next-axial : (t .«axial_total» + axialRatioD (memberIn rows j) .0) + axialTotal (drop (j + 1) rows) ≡ axialTotal rows
+    next-axial : (t .«axial_total» + axialRatioD (inCase (memberIn rows j)) .0) + axialTotal (drop (j + 1) rows) ≡ axialTotal rows
     unfolding axialTotal
-    next-axial = omega (arith, u .axial, total-drop (λ m. axialRatioD m .0) noMember rows j h)
+    next-axial = omega (arith, u .axial, total-drop (λ m. axialRatioD (inCase m) .0) noMember rows j h)
 
     next-shears : (t .«over_shear» + shearIfOver publishedRules k met (memberIn rows j)) + overShear publishedRules k met (drop (j + 1) rows) ≡ overShear publishedRules k met rows
     unfolding overShear
@@ -175,7 +175,7 @@ module _ (k : ℕ) (met : Bool) (rows : List Member) where
   unfolding tallyOf axialTotal overShear someOver damaged
   going-all t j u h =
       let n : t .members ≡ length rows = omega (arith, u .count, u .within) in
-      let a : t .«axial_total» ≡ axialTotal rows = omega (arith, u .axial, total-end (λ m. axialRatioD m .0) noMember rows j h) in
+      let a : t .«axial_total» ≡ axialTotal rows = omega (arith, u .axial, total-end (λ m. axialRatioD (inCase m) .0) noMember rows j h) in
       let b : t .«over_shear» ≡ overShear publishedRules k met rows = omega (arith, u .shears, total-end (shearIfOver publishedRules k met) noMember rows j h) in
       let c : t .some ≡ someOver publishedRules k met rows = sym (or-false (t .some)) ∙ ap (λ (x : Bool). t .some || x) (sym (some-end (over publishedRules k met) rows j h)) ∙ u .anyone in
       let d : t .damage ≡ weighed 0 rows =

@@ -10,7 +10,7 @@ use Rattle.storeys.specs.Storey.{exceedsShare}
 use Rattle.storeys.specs.declared.row.Tally.{Tally}
 use Rattle.storeys.specs.Totals.{membersMost, shearMost, totalMost, weightOf, riskyBy, riskyIn, addedBy, takesOne, withFinding}
 use Rattle.storeys.specs.Tally.{added, AddsUp, AddsNumbers}
-use Rattle.records.specs.Records.{memberFault}
+use Rattle.records.specs.Records.{memberFault, inCase}
 use Rattle.records.specs.declared.Member.{Member}
 use Rattle.records.proofs.Below.{and-left, and-right}
 use Rattle.records.proofs.Validity.{valid}
@@ -80,17 +80,17 @@ module _ (w : ℕ) (t : Tally) where
 
 -- ---- a good member is judged, and its n_D is a ratio
 module _ (k : ℕ) (met : Bool) (m : Member) (h : knowledge k ≡ true) (g : memberFault m ≡ 0) where
-  judged-good : answerBy published k met m ≡ Judged (finding k met m)
+  judged-good : answerBy published k met m ≡ Judged (finding k met (inCase m))
   unfolding answerBy
   judged-good = rw (h, g)
 
-  pub finding-same : (r : MemberAnswer) (f : Finding) → returned r ≡ memberReturned k met m → r ≡ Judged f → f ≡ finding k met m
+  pub finding-same : (r : MemberAnswer) (f : Finding) → returned r ≡ memberReturned k met m → r ≡ Judged f → f ≡ finding k met (inCase m)
   finding-same r f p q = let e = judged-good in let a = answer-is r (answerBy published k met m) p in cc
 
   pub not-refused : (r : MemberAnswer) (n : ℕ) → returned r ≡ memberReturned k met m → r ≡ Refused n → ⊥
   not-refused r n p q = let e = judged-good in let a = answer-is r (answerBy published k met m) p in let z : _≡_ {A = ℕ} 0 1 = cc in omega arith
 
-pub nd-most : (m : Member) → axialRatioD m .0 ≤ ratioCap
+pub nd-most : (m : Member) → axialRatioD (inCase m) .0 ≤ ratioCap
 unfolding axial
 nd-most m = omega arith
 
@@ -128,11 +128,11 @@ unfolding withFinding
 with-left t f m e = rw e
 
 -- a good member's finding is added
-pub with-good : (t : Tally) (k : ℕ) (met : Bool) (m : Member) (f : Finding) → AddsUp t k m → f ≡ finding k met m → withFinding t f m ≡ added t k met m
+pub with-good : (t : Tally) (k : ℕ) (met : Bool) (m : Member) (f : Finding) → AddsUp t k m → f ≡ finding k met (inCase m) → withFinding t f m ≡ added t k met m
 unfolding withFinding added findingBy
 with-good t k met m f u e =
     let v = valid m (u .good) in
-    let q : f .nd .0 ≡ axialRatioD m .0 = ap (λ (x : Finding). x .nd .0) e in
+    let q : f .nd .0 ≡ axialRatioD (inCase m) .0 = ap (λ (x : Finding). x .nd .0) e in
     let r : AddsNumbers t (f .nd .0) m =
     record { fewer = u .fewer; axial-total = u .axial-total; over-shear = u .over-shear; damage = u .damage; ratio = omega (arith, nd-most m, q); shear = v .shear } in
     rw (room-takes t (f .nd .0) m r) (rw e)

@@ -1,6 +1,6 @@
 -- The judgment of a storey (document 01, "Storey and building", "Refusals as returned"): any storey record with any rows of members.
 use Rattle.records.specs.Notation.{ℕ, _+_, _-_, _*_, Bool, _&&_, _||_, List, [], _∷_, _≡_, leb, ltb, eqb, length, pick, inOrder, total, anyOf}
-use Rattle.records.specs.{declared.Storey.Storey, declared.Member.Member, Records.storeyFault}
+use Rattle.records.specs.{declared.Storey.Storey, declared.Member.Member, Records.inCase, Records.storeyFault}
 use Rattle.checks.specs.Rows.{countFault, memberRowsFault}
 use Rattle.members.specs.{declared.tables.Share.Share, declared.tables.LimitSet.LimitSet, declared.limits.Fraction.Fraction, Class.isWall, Tables.published, Tables.publishedShare, Limits.row, Limits.interp}
 use Rattle.members.specs.Finding.{axialRatioD, findingBy, knowledge, flag, Returned, found, refused}
@@ -17,7 +17,7 @@ publishedRules = record { limits = published; share = publishedShare }
 
 -- the V of a wall, and of a column nothing
 abbrev pub wallShear : Member → ℕ
-wallShear m = pick (isWall m) (m .case .shear) 0
+wallShear m = pick (isWall (inCase m)) (m .case .shear) 0
 
 -- "a storey whose walls' V total ≥ 0.40 × storey shear": all walls count, over or not
 unfoldable pub meetsWallShare : ℕ → List Member → Bool
@@ -25,11 +25,11 @@ meetsWallShare w ms = leb (2 * w) (5 * total wallShear ms)
 
 -- "Σ the total of n_D"
 unfoldable pub axialTotal : List Member → ℕ
-axialTotal ms = total (λ m. axialRatioD m .0) ms
+axialTotal ms = total (λ m. axialRatioD (inCase m) .0) ms
 
 -- a member is over, judged with k and the 0.40 condition of its storey
 abbrev pub over : Rules → ℕ → Bool → Member → Bool
-over rules k met m = findingBy (rules .limits) k met m .over
+over rules k met m = findingBy (rules .limits) k met (inCase m) .over
 
 -- the V of a member that is over, and of another nothing
 abbrev pub shearIfOver : Rules → ℕ → Bool → Member → ℕ

@@ -5,7 +5,7 @@ use mathlib.Core.List.{List, [], _∷_}
 use mathlib.Core.Path.{_≡_}
 use lib.ListN.{length}
 use Rattle.records.specs.Notation.{inOrder}
-use Rattle.records.specs.Records.{storeyFault, memberFault}
+use Rattle.records.specs.Records.{storeyFault, memberFault, inCase}
 use Rattle.records.specs.declared.Storey.{Storey}
 use Rattle.records.specs.declared.Member.{Member}
 use Rattle.members.specs.Units.{ratioCap}
@@ -17,7 +17,7 @@ use Rattle.checks.specs.Rows.{countFault, memberRowsFault}
 
 -- the totals with one good member more
 unfoldable pub added : Tally → ℕ → Bool → Member → Tally
-added t k met m = addedBy t (over publishedRules k met m) (axialRatioD m .0) m
+added t k met m = addedBy t (over publishedRules k met m) (axialRatioD (inCase m) .0) m
 
 -- the totals of some members
 unfoldable pub tallyOf : ℕ → Bool → List Member → Tally

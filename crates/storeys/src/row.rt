@@ -21,6 +21,8 @@ use members::tables::Share;
 use members::units::Ratio;
 use records::Member;
 use records::Storey;
+use records::numbers::in_case;
+use records::ranges::member_fault;
 use records::ranges::storey_fault;
 
 // The most members of a storey.
@@ -56,7 +58,7 @@ pub(crate) fn add_wall(t: u64, m: Member) -> u64
     if SHEAR_MOST < m.case.shear {
         return t;
     }
-    if is_wall(m) {
+    if is_wall(in_case(m)) {
         return t + m.case.shear;
     }
     t

@@ -2,7 +2,7 @@ use mathlib.Core.Path.{_≡_, sym, ap, _∙_}
 use mathlib.Core.Bool.{true, false}
 use lib.Dec.{eqb}
 use borrow.Author.Tests.{not-true, not-false, eq-eqb, ne-eqb}
-use Rattle.records.specs.Records.{memberFault}
+use Rattle.records.specs.Records.{inCase, memberFault}
 use Rattle.records.proofs.Validity.{valid}
 use Rattle.members.specs.declared.finding.Finding.{Finding}
 use Rattle.members.specs.declared.finding.MemberAnswer.the-variants.{Judged}
@@ -34,20 +34,24 @@ returns-2 c =
 published-requires : tie.Need-published-requires
 published-requires c κs = search needs
 
+in-case-requires : tie.Need-in-case-requires
+in-case-requires c κs = search needs
+
 judge-requires : tie.Need-judge-requires
 judge-requires c κs =
-    let a = c .before .before .before .before .before .args in
-    let e : knowledge (a .k) ≡ true = sym (c .before .before .before .before .known .ensures) ∙ not-false _ (c .before .before .before .if1 .left) in
+    let a = c .before .before .before .before .before .before .args in
+    let e : knowledge (a .k) ≡ true = sym (c .before .before .before .before .before .known .ensures) ∙ not-false _ (c .before .before .before .before .if1 .left) in
     let l = level-sized (a .k) e in
-    (rw (c .published .ensures) published-sized, l .0, l .1, valid (a .m) (sym (c .before .before .member-fault .ensures) ∙ c .before .if2 .left))
+    let v = valid (a .m) (sym (c .before .before .before .member-fault .ensures) ∙ c .before .before .if2 .left) in
+    (rw (c .before .published .ensures) published-sized, l .0, l .1, rw (c .in-case .ensures) v)
 
 returns-3 : tie.Need-returns-3
 unfolding answerBy
 returns-3 c =
-    let a = c .before .before .before .before .before .before .args in
-    let e : knowledge (a .k) ≡ true = sym (c .before .before .before .before .before .known .ensures) ∙ not-false _ (c .before .before .before .before .if1 .left) in
-    let g : eqb (memberFault (a .m)) 0 ≡ true = rw (← c .before .before .before .member-fault .ensures) (eq-eqb _ _ (c .before .before .if2 .left)) in
-    let f : c .judge .result ≡ finding (a .k) (a .met) (a .m) = rw (← c .before .published .ensures) (c .judge .ensures) in
+    let a = c .before .before .before .before .before .before .before .args in
+    let e : knowledge (a .k) ≡ true = sym (c .before .before .before .before .before .before .known .ensures) ∙ not-false _ (c .before .before .before .before .before .if1 .left) in
+    let g : eqb (memberFault (a .m)) 0 ≡ true = rw (← c .before .before .before .before .member-fault .ensures) (eq-eqb _ _ (c .before .before .before .if2 .left)) in
+    let f : c .judge .result ≡ finding (a .k) (a .met) (inCase (a .m)) = rw (← c .before .before .published .ensures, ← c .before .in-case .ensures) (c .judge .ensures) in
     simp (e, g) (ap (λ (g : Finding). returned (Judged g)) f)
 
 pub judge-member-spec : {M : Type 1} → statement M
@@ -59,5 +63,6 @@ judge-member-spec =
     member-fault-requires
     returns-2
     published-requires
+    in-case-requires
     judge-requires
     returns-3)

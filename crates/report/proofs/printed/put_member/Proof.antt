@@ -1,4 +1,5 @@
 use mathlib.Core.Path.{_∙_}
+use Rattle.records.specs.Records.{inCase}
 use Rattle.members.specs.Finding.{finding}
 use Rattle.storeys.proofs.Rows.{finding-same, not-refused, with-good}
 use Rattle.report.proofs.Printing.{member-line-of}
@@ -35,7 +36,7 @@ returns c =
       l .ensures .0,
       (
         c .before .before .before .before .add-finding .ensures ∙ with-good (a .r .tally) (a .k) (a .met) (a .m) (g .0 .0) p e,
-        member-line-of (l .last .0) (a .out .now) (a .r .at) (a .m .number) (g .0 .0) (finding (a .k) (a .met) (a .m)) (l .ensures .1) e,
+        member-line-of (l .last .0) (a .out .now) (a .r .at) (a .m .number) (g .0 .0) (finding (a .k) (a .met) (inCase (a .m))) (l .ensures .1) e,
       ),
     )
 
