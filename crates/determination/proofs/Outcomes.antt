@@ -19,7 +19,6 @@ use Rattle.report.specs.Sheet.{sheet, refusalLine, reportFault, reportAnswer, r
 use Rattle.report.proofs.Returned.{report-answer-is}
 use Rattle.records.specs.Notation.{everyBelow, total}
 use Rattle.records.specs.Records.{Survey, surveyOf, headerFault}
-use Rattle.storeys.specs.Building.{}
 use Rattle.checks.specs.Rows.{countsFault, recordsFault}
 use Rattle.report.proofs.Called.{sheet-fits}
 use Rattle.determination.specs.Answers.{blank, headerTold, membersTold, lengthBy, bytesBy, lengthTold, bytesTold}

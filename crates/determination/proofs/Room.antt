@@ -14,8 +14,6 @@ use Rattle.reading.specs.Survey.{Outcome, accepted, survey, surveyFault, storey
 use Rattle.reading.specs.Answer.{told, storeysTold}
 use Rattle.reading.proofs.Numbers.{length-listed, length-members}
 use Rattle.reading.proofs.Accepted.{lies}
-use Rattle.storeys.specs.Storey.{publishedRules}
-use Rattle.storeys.specs.Building.{}
 use Rattle.report.specs.Sheet.{sheet, reportFault}
 use Rattle.report.proofs.Called.{length-sheet}
 use Rattle.determination.specs.Determination.{storeyRows, memberRows, sheetMost}

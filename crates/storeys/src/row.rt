@@ -22,7 +22,6 @@ use members::units::Ratio;
 use records::Member;
 use records::Storey;
 use records::numbers::in_case;
-use records::ranges::member_fault;
 use records::ranges::storey_fault;
 
 // The most members of a storey.

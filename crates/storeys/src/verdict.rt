@@ -10,7 +10,6 @@ use crate::BuildingJudgment;
 use crate::StoreyFinding;
 use records::Header;
 use records::first::earlier;
-use records::ranges::header_fault;
 
 // The largest tilt that does not make a building Risky, microradians.
 const TILT_ALLOWED: u64 = 25_000;
