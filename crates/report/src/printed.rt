@@ -100,7 +100,7 @@ pub(crate) fn put_member(
     }
 }
 
-pub(crate) fn put_storey(out: &mut [u8], at: usize, s: Storey, f: StoreyFinding) -> usize
+fn put_storey(out: &mut [u8], at: usize, s: Storey, f: StoreyFinding) -> usize
     requires { ⌜ at + 74 ≤ length (now out) ⌝ }
     ensures { λ r. ⌜ r ≡ at + 74 ⌝ }
     ensures { λ _. ⌜ now (out .exit) ≡ stamped (now (out .entry)) at (storeyLine (s .number) f) ⌝ }
