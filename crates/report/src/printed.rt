@@ -104,7 +104,7 @@ pub(crate) fn put_member(
     }
 }
 
-pub(crate) fn put_storey(out: &mut [u8], at: usize, s: Storey, f: StoreyFinding) -> usize
+fn put_storey(out: &mut [u8], at: usize, s: Storey, f: StoreyFinding) -> usize
     requires { ⌜ at + storeyLineSize ≤ length (now out) ⌝ }
     ensures { λ r. ⌜ r ≡ at + storeyLineSize ⌝ }
     ensures { λ _. ⌜ now (out .exit) ≡ stamped (now (out .entry)) at (storeyLine (s .number) f) ⌝ }
