@@ -1,0 +1,4 @@
+pub mod Entries
+pub mod Places
+pub mod Sizes
+pub mod Accepted
