@@ -2,7 +2,7 @@
 ghost use mathlib.Core.Path.{_≡_};
 ghost use Prim.Native.Nat.{_≤_};
 ghost use Rattle.hazard.specs.Spectrum.{spectral, levelOf, spectrumAt, returnedSpectrum, spectrumReturned};
-ghost use Rattle.hazard.specs.Sizes.{SizedSite, SizedLevel};
+ghost use Rattle.hazard.specs.Sizes.{SizedSite, SizedLevel, SizedFraction};
 use crate::ranges::spectrum_fault;
 use crate::site::Motion;
 use crate::site::Site;
@@ -54,7 +54,7 @@ fn level_of(usage: u64, dd1: Site, dd2: Site) -> Level
 // The line of equation 2.3 that decides at a period.
 fn spectral(sds: u64, sd1: u64, t: u64) -> Fraction
     requires { ⌜ (1 ≤ sds) × (sds ≤ 4_195_800) × (1 ≤ sd1) × (sd1 ≤ 4_195_800) × (t ≤ 99_999) ⌝ }
-    ensures { λ r. ⌜ r ≡ spectral sds sd1 t ⌝ }
+    ensures { λ r. ⌜ (r ≡ spectral sds sd1 t) × SizedFraction r ⌝ }
 {
     if t * sds <= 200 * sd1 {
         return Fraction {

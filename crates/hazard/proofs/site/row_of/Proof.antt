@@ -11,7 +11,7 @@ sub-result : tie.Need-sub-result
 sub-result c = search needs
 
 returns-2 : tie.Need-returns-2
-returns-2 c = (simp (ne-eqb _ _ (c .before .if1 .left)), omega arith)
+returns-2 c = (simp (ne-eqb _ _ (c .if1 .left)), omega arith)
 
 pub row-of-spec : {M : Type 1} → statement M
 row-of-spec = tie.close (tie.spec returns sub-result returns-2)
