@@ -3,3 +3,7 @@ pub mod Places
 pub mod Sizes
 pub mod Lines
 pub mod Accepted
+pub mod Told
+pub mod Falling
+pub mod Rising
+pub mod Order

@@ -100,6 +100,15 @@ row-long j x h = omega arith
 past-long : (j x : ℕ) → x < 51 → (630 + j * 51 + x - 630) % 51 ≡ x
 past-long j x h = omega arith
 
+-- outside the columns the end columns hold
+pub short-held : (j x : ℕ) → factor shortPeriod j x ≡ factor shortPeriod j (held (shortPeriod .columns) x)
+unfolding factor
+short-held j x = is-held (shortPeriod .columns) (rowAt shortPeriod j) short-rising x
+
+pub long-held : (j x : ℕ) → factor oneSecond j x ≡ factor oneSecond j (held (oneSecond .columns) x)
+unfolding factor
+long-held j x = is-held (oneSecond .columns) (rowAt oneSecond j) long-rising x
+
 -- F_S and F_1 are numbers of the table
 pub short-place : (j x : ℕ) → j < 5 → factor shortPeriod j x ≡ entryOf (j * 126 + (held (shortPeriod .columns) x - 25))
 unfolding factor entryExact
@@ -109,7 +118,7 @@ short-place j x h =
     let e : ltb (j * 126 + p) 630 ≡ true = lt-ltb (j * 126 + p) 630 (omega arith) in
     let z : 25 + p ≡ held (shortPeriod .columns) x = omega arith in
     rw (e, row-short j p l, past-short j p l, z)
-    (is-held (shortPeriod .columns) (rowAt shortPeriod j) short-rising x)
+    (short-held j x)
 
 pub long-place : (j x : ℕ) → j < 5 → factor oneSecond j x ≡ entryOf (630 + j * 51 + (held (oneSecond .columns) x - 10))
 unfolding factor entryExact
@@ -119,4 +128,4 @@ long-place j x h =
     let e : ltb (630 + j * 51 + p) 630 ≡ false = le-ltb (630 + j * 51 + p) 630 (omega arith) in
     let z : 10 + p ≡ held (oneSecond .columns) x = omega arith in
     rw (e, row-long j p l, past-long j p l, z)
-    (is-held (oneSecond .columns) (rowAt oneSecond j) long-rising x)
+    (long-held j x)

@@ -4,3 +4,4 @@ pub mod Site
 pub mod Spectrum
 pub mod Entries
 pub mod Sizes
+pub mod Order
