@@ -31,7 +31,10 @@ all-exact : everyBelow exactAt 885 ≡ true
 unfolding everyBelow interp between entryExact
 all-exact = refl
 
+pub entry-exact : (k : ℕ) → k < 885 → entryOf k * entryExact k .den ≡ entryExact k .num * 100
+entry-exact k h = eqb-true _ _ (every-at exactAt 885 k all-exact h)
+
 pub entry-is : (k : ℕ) → k < 885 → Entry k (getD (numbers 885 0) k 0)
 entry-is k h =
     let e : getD (numbers 885 0) k 0 ≡ entryOf k = numbers-at 885 0 k h ∙ ap entryOf (zero-add k) in
-    record { value = e; exact = rw e (eqb-true _ _ (every-at exactAt 885 k all-exact h)) }
+    record { value = e; exact = rw e (entry-exact k h) }

@@ -26,8 +26,8 @@ never-rises class usage dd1 dd2 t u a b p q from h =
     let d = spectrum-accepted class usage dd1 dd2 u (y .clear) in
     let l = levelOf usage (siteOf class dd1) (siteOf class dd2) in
     let s =
-        level-sized usage (siteOf class dd1) (siteOf class dd2) (site-sized class dd1 (c .class-least) (c .class-most) (c .first))
-        (site-sized class dd2 (c .class-least) (c .class-most) (c .second))
+    level-sized usage (siteOf class dd1) (siteOf class dd2) (site-sized class dd1 (c .class-least) (c .class-most) (c .first))
+    (site-sized class dd2 (c .class-least) (c .class-most) (c .second))
     in
     let f = spectral-sized (l .sds) (l .sd1) t (s .sds-most) (s .sd1-least) (s .sd1-most) (c .period) in
     let g = spectral-sized (l .sds) (l .sd1) u (s .sds-most) (s .sd1-least) (s .sd1-most) (d .period) in

@@ -59,7 +59,7 @@ returns-2 c =
     let a = c .before .before .before .before .before .before .args in
     let g : eqb (spectrumFault (a .class) (a .usage) (a .dd1) (a .dd2) (a .period)) 0 ≡ true = rw (← c .before .before .before .before .before .spectrum-fault .ensures) (eq-eqb _ _ (c .before .before .before .before .if1 .left)) in
     let v : c .spectrum-at .result ≡ spectrumOf (a .class) (a .usage) (a .dd1) (a .dd2) (a .period) =
-        rw (← c .before .before .before .site-of .ensures, ← c .before .before .site-of2 .ensures, ← c .before .level-of .ensures) (c .spectrum-at .ensures)
+    rw (← c .before .before .before .site-of .ensures, ← c .before .before .site-of2 .ensures, ← c .before .level-of .ensures) (c .spectrum-at .ensures)
     in
     simp g (ap (λ (n : ℕ). returnedSpectrum (Computed n)) v)
 
