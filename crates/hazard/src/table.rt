@@ -3,6 +3,7 @@ ghost use Prim.Native.Nat.{_<_};
 ghost use Rattle.hazard.specs.Entries.{Entry};
 
 const FACTORS: [u64; 885] = [
+    // F_S of ZA, from 0.25
     800,
     800,
     800,
@@ -129,6 +130,7 @@ const FACTORS: [u64; 885] = [
     800,
     800,
     800,
+    // F_S of ZB, from 0.25
     900,
     900,
     900,
@@ -255,6 +257,7 @@ const FACTORS: [u64; 885] = [
     900,
     900,
     900,
+    // F_S of ZC, from 0.25
     1300,
     1300,
     1300,
@@ -381,6 +384,7 @@ const FACTORS: [u64; 885] = [
     1200,
     1200,
     1200,
+    // F_S of ZD, from 0.25
     1600,
     1592,
     1584,
@@ -507,6 +511,7 @@ const FACTORS: [u64; 885] = [
     1000,
     1000,
     1000,
+    // F_S of ZE, from 0.25
     2400,
     2372,
     2344,
@@ -633,6 +638,7 @@ const FACTORS: [u64; 885] = [
     808,
     804,
     800,
+    // F_1 of ZA, from 0.10
     800,
     800,
     800,
@@ -684,6 +690,7 @@ const FACTORS: [u64; 885] = [
     800,
     800,
     800,
+    // F_1 of ZB, from 0.10
     800,
     800,
     800,
@@ -735,6 +742,7 @@ const FACTORS: [u64; 885] = [
     800,
     800,
     800,
+    // F_1 of ZC, from 0.10
     1500,
     1500,
     1500,
@@ -786,6 +794,7 @@ const FACTORS: [u64; 885] = [
     1420,
     1410,
     1400,
+    // F_1 of ZD, from 0.10
     2400,
     2380,
     2360,
@@ -837,6 +846,7 @@ const FACTORS: [u64; 885] = [
     1720,
     1710,
     1700,
+    // F_1 of ZE, from 0.10
     4200,
     4110,
     4020,

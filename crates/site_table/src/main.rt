@@ -7,30 +7,35 @@ use libc::STDOUT_FILENO;
 
 // Table 2.3: F_S of ZA to ZE in tenths, at S_S 0.25, 0.50, 0.75, 1.00, 1.25 and 1.50.
 const SHORT_PERIOD: [u8; 30] = [
+    // ZA
     8,
     8,
     8,
     8,
     8,
     8,
+    // ZB
     9,
     9,
     9,
     9,
     9,
     9,
+    // ZC
     13,
     13,
     12,
     12,
     12,
     12,
+    // ZD
     16,
     14,
     12,
     11,
     10,
     10,
+    // ZE
     24,
     17,
     13,
@@ -41,30 +46,35 @@ const SHORT_PERIOD: [u8; 30] = [
 
 // Table 2.4: F_1 of ZA to ZE in tenths, at S_1 0.10, 0.20, 0.30, 0.40, 0.50 and 0.60.
 const ONE_SECOND: [u8; 30] = [
+    // ZA
     8,
     8,
     8,
     8,
     8,
     8,
+    // ZB
     8,
     8,
     8,
     8,
     8,
     8,
+    // ZC
     15,
     15,
     15,
     15,
     15,
     14,
+    // ZD
     24,
     22,
     20,
     19,
     18,
     17,
+    // ZE
     42,
     33,
     28,
