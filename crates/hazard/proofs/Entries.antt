@@ -34,7 +34,7 @@ all-exact = refl
 pub entry-exact : (k : ℕ) → k < 885 → entryOf k * entryExact k .den ≡ entryExact k .num * 100
 entry-exact k h = eqb-true _ _ (every-at exactAt 885 k all-exact h)
 
-pub entry-is : (k : ℕ) → k < 885 → Entry k (getD (numbers 885 0) k 0)
-entry-is k h =
-    let e : getD (numbers 885 0) k 0 ≡ entryOf k = numbers-at 885 0 k h ∙ ap entryOf (zero-add k) in
+pub entry-is : (k x : ℕ) → k < 885 → x ≡ getD (numbers 885 0) k 0 → Entry k x
+entry-is k x h p =
+    let e : x ≡ entryOf k = p ∙ numbers-at 885 0 k h ∙ ap entryOf (zero-add k) in
     record { value = e; exact = rw e (entry-exact k h) }

@@ -1,8 +1,9 @@
 // The site coefficients F_S and F_1 (document 02, N8), in thousandths: class by class from ZA to ZE, at each hundredth of S_S from 0.25 to 1.50, then likewise of S_1 from 0.10 to 0.60.
+ghost use mathlib.Core.Path.{_≡_};
 ghost use Prim.Native.Nat.{_<_};
 ghost use Rattle.hazard.specs.Entries.{Entry};
 
-const FACTORS: [u64; 885] = [
+const FACTORS: [u16; 885] = [
     // F_S of ZA, from 0.25
     800,
     800,
@@ -900,10 +901,16 @@ const FACTORS: [u64; 885] = [
     2000,
 ];
 
+fn wide(x: u16) -> u64
+    ensures { λ r. ⌜ r ≡ x ⌝ }
+{
+    x as u64
+}
+
 // Number k of them, counted from 0.
 pub(crate) fn entry(k: usize) -> u64
     requires { ⌜ k < 885 ⌝ }
     ensures { λ r. ⌜ Entry k r ⌝ }
 {
-    FACTORS[k]
+    wide(FACTORS[k])
 }

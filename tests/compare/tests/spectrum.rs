@@ -1,4 +1,5 @@
 //! Site coefficients and spectra by the proved library and by the independent program, and the numbers that the program `site_table` prints.
+use compare::picture::{file, picture, DD1, DD2};
 use compare::spectrum::{same_site, same_spectrum, site, spectrum};
 use generator::{map_coefficients, period, site_class, usage, Rng};
 use independent::{site_table, Motion, Refusal};
@@ -136,4 +137,35 @@ fn the_printed_numbers() {
     let short = (1..=5).flat_map(|class| (25..=150).map(move |ss| site(class, ss, 10).expect("accepted").f_s));
     let long = (1..=5).flat_map(|class| (10..=60).map(move |s1| site(class, 25, s1).expect("accepted").f_1));
     assert_eq!(numbers, short.chain(long).collect::<Vec<u64>>());
+}
+
+/// The rows of a table of docs/SPECTRUM.md that begin with a site class, in whole numbers of their grids.
+fn page_rows(columns: usize) -> Vec<(u64, Vec<u64>)> {
+    let page = std::fs::read_to_string(Path::new(env!("CARGO_MANIFEST_DIR")).join("../../docs/SPECTRUM.md")).expect("the page");
+    let classes = ["| ZA |", "| ZB |", "| ZC |", "| ZD |", "| ZE |", "| ZF |"];
+    let class = |line: &str| classes.iter().position(|start| line.starts_with(start)).map(|place| place as u64 + 1);
+    let figures = |line: &str| line.split('|').skip(2).map(|cell| cell.trim().replace('.', "")).filter_map(|cell| cell.parse().ok()).collect();
+    let rows = page.lines().filter_map(|line| class(line).map(|class| (class, figures(line))));
+    rows.filter(|(_, figures): &(u64, Vec<u64>)| figures.len() == columns).collect()
+}
+
+#[test]
+fn the_sites_of_the_page() {
+    let (dd1, dd2) = (Motion { ss: DD1.ss, s1: DD1.s1 }, Motion { ss: DD2.ss, s1: DD2.s1 });
+    let (sites, spectra) = (page_rows(4), page_rows(5));
+    assert_eq!((sites.len(), spectra.len()), (6, 12));
+    for (class, figures) in sites {
+        let f = same_site(class, dd2.ss, dd2.s1).expect("accepted");
+        assert_eq!(figures, [f.f_s, f.f_1, f.s_ds, f.s_d1], "class {class}");
+    }
+    for (class, figures) in spectra {
+        let found = [0, 300, 1_000, 7_000].map(|period| same_spectrum(class, figures[0], dd1, dd2, period).expect("accepted"));
+        assert_eq!(figures[1..], found, "class {class}, use {}", figures[0]);
+    }
+}
+
+/// `--bin picture` draws it anew.
+#[test]
+fn the_picture_of_the_page() {
+    assert_eq!(std::fs::read_to_string(file()).expect("the picture"), picture());
 }
