@@ -6,7 +6,7 @@ use native.Mathlib.Omega.{arith}
 use mathlib.Core.Path.{_≡_}
 use borrow.Author.Tests.{le-leb, lt-leb}
 use Rattle.hazard.specs.Spectrum.{spectral, tL, line1, line2, line3, line4}
-use Rattle.hazard.specs.Sizes.{SizedFraction}
+use Rattle.hazard.specs.Sizes.{Sized, SizedFraction}
 
 module _ (sds sd1 t : ℕ) where
   pub to-a : t * sds ≤ 200 * sd1 → spectral sds sd1 t ≡ line1 sds sd1 t
@@ -29,11 +29,11 @@ pub positive : (t s n : ℕ) → n < t * s → 1 ≤ t
 positive zero s n h = absurd (omega arith)
 positive (suc t) s n h = omega arith
 
-pub spectral-sized : (sds sd1 t : ℕ) → sds ≤ 4_195_800 → 1 ≤ sd1 → sd1 ≤ 4_195_800 → t ≤ 99_999 → SizedFraction (spectral sds sd1 t)
-spectral-sized sds sd1 t s k l m = go (decLe (t * sds) (200 * sd1)) (decLe (t * sds) (1_000 * sd1)) (decLe t tL)
+pub spectral-sized : (sds sd1 t : ℕ) → Sized sds sd1 → t ≤ 99_999 → SizedFraction (spectral sds sd1 t)
+spectral-sized sds sd1 t s m = go (decLe (t * sds) (200 * sd1)) (decLe (t * sds) (1_000 * sd1)) (decLe t tL)
   where
     go : Dec (t * sds ≤ 200 * sd1) → Dec (t * sds ≤ 1_000 * sd1) → Dec (t ≤ tL) → SizedFraction (spectral sds sd1 t)
-    go (yes a) b c = rw (to-a sds sd1 t a) (record { num = mul-le-mul {m₂ = 4_195_800_000} s (omega arith); den-least = omega arith; den-most = omega arith })
+    go (yes a) b c = rw (to-a sds sd1 t a) (record { num = mul-le-mul {m₂ = 4_195_800_000} (s .sds-most) (omega arith); den-least = omega arith; den-most = omega arith })
     go (no a) (yes b) c = rw (to-b sds sd1 t (omega arith) b) (record { num = omega arith; den-least = omega arith; den-most = omega arith })
     go (no a) (no b) (yes c) = rw (to-l sds sd1 t (omega arith) c) (record { num = omega arith; den-least = positive t sds (1_000 * sd1) (omega arith); den-most = omega arith })
     go (no a) (no b) (no c) =

@@ -29,8 +29,8 @@ never-rises class usage dd1 dd2 t u a b p q from h =
     level-sized usage (siteOf class dd1) (siteOf class dd2) (site-sized class dd1 (c .class-least) (c .class-most) (c .first))
     (site-sized class dd2 (c .class-least) (c .class-most) (c .second))
     in
-    let f = spectral-sized (l .sds) (l .sd1) t (s .sds-most) (s .sd1-least) (s .sd1-most) (c .period) in
-    let g = spectral-sized (l .sds) (l .sd1) u (s .sds-most) (s .sd1-least) (s .sd1-most) (d .period) in
+    let f = spectral-sized (l .sds) (l .sd1) t (s .coefficients) (c .period) in
+    let g = spectral-sized (l .sds) (l .sd1) u (s .coefficients) (d .period) in
     rw (← x .value, ← y .value)
     (up-mono (spectral (l .sds) (l .sd1) u) (spectral (l .sds) (l .sd1) t) (l .tenths) 10 (g .den-least) (f .den-least) (omega arith) (falls (l .sds) (l .sd1) t u from h))
 

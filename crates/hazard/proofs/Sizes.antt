@@ -54,7 +54,7 @@ site-sized class m h k s =
     }
 
 of-level : (s : Site) (tenths : ℕ) → tenths ≤ 15 → SizedSite s → SizedLevel (level s tenths)
-of-level s tenths h z = record { sds-least = z .sds-least; sds-most = z .sds-most; sd1-least = z .sd1-least; sd1-most = z .sd1-most; tenths = h }
+of-level s tenths h z = record { coefficients = z; tenths = h }
 
 pub level-sized : (usage : ℕ) (dd1 dd2 : Site) → SizedSite dd1 → SizedSite dd2 → SizedLevel (levelOf usage dd1 dd2)
 unfolding levelOf

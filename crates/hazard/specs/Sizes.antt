@@ -1,5 +1,5 @@
 -- The sizes that the code computes with, so that no product wraps.
-use Rattle.records.specs.Notation.{_≤_}
+use Rattle.records.specs.Notation.{ℕ, _≤_}
 use Rattle.members.specs.declared.limits.Fraction.{Fraction}
 use Rattle.hazard.specs.Site.{Motion, Site}
 use Rattle.hazard.specs.Spectrum.{Level}
@@ -10,18 +10,18 @@ pub record SizedMotion (m : Motion) : Type 0 where
   pub s1-least : 1 ≤ m .s1
   pub s1-most : m .s1 ≤ 999
 
--- 999 × 4,200 at most
-pub record SizedSite (s : Site) : Type 0 where
-  pub sds-least : 1 ≤ s .sds
-  pub sds-most : s .sds ≤ 4_195_800
-  pub sd1-least : 1 ≤ s .sd1
-  pub sd1-most : s .sd1 ≤ 4_195_800
+-- S_DS and S_D1: 999 × 4,200 at most
+pub record Sized (sds sd1 : ℕ) : Type 0 where
+  pub sds-least : 1 ≤ sds
+  pub sds-most : sds ≤ 4_195_800
+  pub sd1-least : 1 ≤ sd1
+  pub sd1-most : sd1 ≤ 4_195_800
+
+abbrev pub SizedSite : Site → Type 0
+SizedSite s = Sized (s .sds) (s .sd1)
 
 pub record SizedLevel (l : Level) : Type 0 where
-  pub sds-least : 1 ≤ l .sds
-  pub sds-most : l .sds ≤ 4_195_800
-  pub sd1-least : 1 ≤ l .sd1
-  pub sd1-most : l .sd1 ≤ 4_195_800
+  pub coefficients : Sized (l .sds) (l .sd1)
   pub tenths : l .tenths ≤ 15
 
 -- a spectrum before its factor

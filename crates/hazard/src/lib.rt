@@ -1,5 +1,5 @@
 // The site coefficients and the spectrum (document 02, N8), in hundredths, thousandths and hundred-thousandths as docs/SPECTRUM.md has them.
-pub mod ranges;
+mod ranges;
 pub mod site;
 pub mod spectrum;
-pub mod table;
+mod table;

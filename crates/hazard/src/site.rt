@@ -27,6 +27,21 @@ pub enum SiteAnswer {
     Refused(u64),
 }
 
+// The first and the last column of each table, in hundredths, and how many numbers of it a class has; those of table 2.4 stand after all of table 2.3.
+const SHORT_FIRST: u64 = 25;
+
+const SHORT_LAST: u64 = 150;
+
+const SHORT_NUMBERS: u64 = SHORT_LAST - SHORT_FIRST + 1;
+
+const LONG_FIRST: u64 = 10;
+
+const LONG_LAST: u64 = 60;
+
+const LONG_NUMBERS: u64 = LONG_LAST - LONG_FIRST + 1;
+
+const LONG_START: u64 = 5 * SHORT_NUMBERS;
+
 // How far x stands past the first column; at most as far as the last one.
 fn past_first(x: u64, first: u64, last: u64) -> u64
     requires { ⌜ first ≤ last ⌝ }
@@ -46,8 +61,8 @@ fn short_factor(row: u64, ss: u64) -> u64
     requires { ⌜ row < 5 ⌝ }
     ensures { λ r. ⌜ r ≡ factor shortPeriod row ss ⌝ }
 {
-    let past = past_first(ss, 25, 150);
-    entry((row * 126 + past) as usize)
+    let past = past_first(ss, SHORT_FIRST, SHORT_LAST);
+    entry((row * SHORT_NUMBERS + past) as usize)
 }
 
 // F_1 of a row of table 2.4.
@@ -55,8 +70,8 @@ fn long_factor(row: u64, s1: u64) -> u64
     requires { ⌜ row < 5 ⌝ }
     ensures { λ r. ⌜ r ≡ factor oneSecond row s1 ⌝ }
 {
-    let past = past_first(s1, 10, 60);
-    entry((630 + row * 51 + past) as usize)
+    let past = past_first(s1, LONG_FIRST, LONG_LAST);
+    entry((LONG_START + row * LONG_NUMBERS + past) as usize)
 }
 
 // The row of a site class: that of ZE for ZF.

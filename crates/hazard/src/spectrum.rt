@@ -2,7 +2,7 @@
 ghost use mathlib.Core.Path.{_≡_};
 ghost use Prim.Native.Nat.{_≤_};
 ghost use Rattle.hazard.specs.Spectrum.{spectral, levelOf, spectrumAt, returnedSpectrum, spectrumReturned};
-ghost use Rattle.hazard.specs.Sizes.{SizedSite, SizedLevel, SizedFraction};
+ghost use Rattle.hazard.specs.Sizes.{Sized, SizedSite, SizedLevel, SizedFraction};
 use crate::ranges::spectrum_fault;
 use crate::site::Motion;
 use crate::site::Site;
@@ -53,7 +53,7 @@ fn level_of(usage: u64, dd1: Site, dd2: Site) -> Level
 
 // The line of equation 2.3 that decides at a period.
 fn spectral(sds: u64, sd1: u64, t: u64) -> Fraction
-    requires { ⌜ (1 ≤ sds) × (sds ≤ 4_195_800) × (1 ≤ sd1) × (sd1 ≤ 4_195_800) × (t ≤ 99_999) ⌝ }
+    requires { ⌜ Sized sds sd1 × (t ≤ 99_999) ⌝ }
     ensures { λ r. ⌜ (r ≡ spectral sds sd1 t) × SizedFraction r ⌝ }
 {
     if t * sds <= 200 * sd1 {

@@ -85,8 +85,19 @@ const ONE_SECOND: [u8; 30] = [
 
 const COLUMNS: usize = 6;
 
-// How many numbers are printed.
-const NUMBERS: usize = 885;
+// How far the columns of a table stand apart, in hundredths, and how many numbers a class has between the first and the last.
+const SHORT_GAP: usize = 25;
+
+const SHORT_NUMBERS: usize = 5 * SHORT_GAP + 1;
+
+const LONG_GAP: usize = 10;
+
+const LONG_NUMBERS: usize = 5 * LONG_GAP + 1;
+
+// How many numbers come before those of table 2.4, and how many there are.
+const LONG_START: usize = 5 * SHORT_NUMBERS;
+
+const NUMBERS: usize = LONG_START + 5 * LONG_NUMBERS;
 
 fn wide(x: u8) -> u64
     ensures { λ r. ⌜ (r ≡ x) × (r ≤ 255) ⌝ }
@@ -131,10 +142,16 @@ fn coefficient(k: usize) -> u64
     requires { ⌜ k < 885 ⌝ }
     ensures { λ r. ⌜ Entry k r ⌝ }
 {
-    if k < 630 {
-        return weighed(&SHORT_PERIOD, 25, k / 126, k % 126);
+    if k < LONG_START {
+        return weighed(
+            &SHORT_PERIOD,
+            SHORT_GAP,
+            k / SHORT_NUMBERS,
+            k % SHORT_NUMBERS,
+        );
     }
-    weighed(&ONE_SECOND, 10, (k - 630) / 51, (k - 630) % 51)
+    let j = k - LONG_START;
+    weighed(&ONE_SECOND, LONG_GAP, j / LONG_NUMBERS, j % LONG_NUMBERS)
 }
 
 // A number to a line; whether it was written.

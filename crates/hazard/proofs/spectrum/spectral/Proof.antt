@@ -9,7 +9,7 @@ use Rattle.hazard.proofs.spectrum.spectral.Statement.{statement}
 use Rattle.hazard.proofs.spectrum.spectral.Tie as tie
 
 mul-if1 : tie.Need-mul-if1
-mul-if1 c = omega (arith, mul-le-mul (c .pre .4) (c .pre .1))
+mul-if1 c = omega (arith, mul-le-mul (c .pre .1) (c .pre .0 .sds-most))
 
 mul-if1-2 : tie.Need-mul-if1-2
 mul-if1-2 c = search needs
@@ -30,7 +30,7 @@ mul-t11 : tie.Need-mul-t11
 mul-t11 c =
     let a = c .before .args in
     let b : 400 * a .sd1 + 3 * (a .t * a .sds) ≤ 4_195_800_000 = omega arith in
-    omega (arith, mul-le-mul (c .before .pre .1) b)
+    omega (arith, mul-le-mul (c .before .pre .0 .sds-most) b)
 
 mul-t12 : tie.Need-mul-t12
 mul-t12 c = search needs
@@ -39,10 +39,10 @@ returns : tie.Need-returns
 returns c =
     let a = c .before .args in
     let e = to-a (a .sds) (a .sd1) (a .t) (c .if1 .taken) in
-    (sym e, subst SizedFraction e (spectral-sized (a .sds) (a .sd1) (a .t) (c .before .pre .1) (c .before .pre .2) (c .before .pre .3) (c .before .pre .4)))
+    (sym e, subst SizedFraction e (spectral-sized (a .sds) (a .sd1) (a .t) (c .before .pre .0) (c .before .pre .1)))
 
 mul-if2 : tie.Need-mul-if2
-mul-if2 c = omega (arith, mul-le-mul (c .before .pre .4) (c .before .pre .1))
+mul-if2 c = omega (arith, mul-le-mul (c .before .pre .1) (c .before .pre .0 .sds-most))
 
 mul-if2-2 : tie.Need-mul-if2-2
 mul-if2-2 c = search needs
@@ -51,7 +51,7 @@ returns-2 : tie.Need-returns-2
 returns-2 c =
     let a = c .before .before .args in
     let e = to-b (a .sds) (a .sd1) (a .t) (omega arith) (c .if2 .taken) in
-    (sym e, subst SizedFraction e (spectral-sized (a .sds) (a .sd1) (a .t) (c .before .before .pre .1) (c .before .before .pre .2) (c .before .before .pre .3) (c .before .before .pre .4)))
+    (sym e, subst SizedFraction e (spectral-sized (a .sds) (a .sd1) (a .t) (c .before .before .pre .0) (c .before .before .pre .1)))
 
 mul-t13 : tie.Need-mul-t13
 mul-t13 c = search needs
@@ -60,7 +60,7 @@ returns-3 : tie.Need-returns-3
 returns-3 c =
     let a = c .before .before .before .args in
     let e = to-l (a .sds) (a .sd1) (a .t) (omega arith) (c .if3 .taken) in
-    (sym e, subst SizedFraction e (spectral-sized (a .sds) (a .sd1) (a .t) (c .before .before .before .pre .1) (c .before .before .before .pre .2) (c .before .before .before .pre .3) (c .before .before .before .pre .4)))
+    (sym e, subst SizedFraction e (spectral-sized (a .sds) (a .sd1) (a .t) (c .before .before .before .pre .0) (c .before .before .before .pre .1)))
 
 mul-t4 : tie.Need-mul-t4
 mul-t4 c = search needs
@@ -69,13 +69,13 @@ mul-t5 : tie.Need-mul-t5
 mul-t5 c = search needs
 
 mul-t14 : tie.Need-mul-t14
-mul-t14 c = omega (arith, mul-le-mul (c .before .before .before .pre .4) (c .before .before .before .pre .4))
+mul-t14 c = omega (arith, mul-le-mul (c .before .before .before .pre .1) (c .before .before .before .pre .1))
 
 returns-4 : tie.Need-returns-4
 returns-4 c =
     let a = c .before .before .before .args in
     let e = past-l (a .sds) (a .sd1) (a .t) (omega arith) (omega arith) in
-    (sym e, subst SizedFraction e (spectral-sized (a .sds) (a .sd1) (a .t) (c .before .before .before .pre .1) (c .before .before .before .pre .2) (c .before .before .before .pre .3) (c .before .before .before .pre .4)))
+    (sym e, subst SizedFraction e (spectral-sized (a .sds) (a .sd1) (a .t) (c .before .before .before .pre .0) (c .before .before .before .pre .1)))
 
 pub spectral-spec : {M : Type 1} → statement M
 spectral-spec = tie.close (tie.spec mul-if1 mul-if1-2 mul-t7 mul-t8 mul-t9 add-t10 mul-t11 mul-t12 returns mul-if2 mul-if2-2 returns-2 mul-t13 returns-3 mul-t4 mul-t5 mul-t14 returns-4)
