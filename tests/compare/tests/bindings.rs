@@ -367,8 +367,8 @@ const STACKS: [(&str, usize); 12] = [
     ("llunareth_judge_building", 3_000),
     ("llunareth_report", 4_000),
     ("llunareth_write", 3_000),
-    ("llunareth_site_coefficients", 1_000),
-    ("llunareth_spectrum", 1_000),
+    ("llunareth_site_coefficients", 3_000),
+    ("llunareth_spectrum", 3_000),
     ("llunareth_determine", 72_000),
 ];
 
