@@ -6,17 +6,7 @@
 #include <stdio.h>
 
 #include "llunareth.h"
-
-#define COUNT(array) (sizeof(array) / sizeof((array)[0]))
-
-static void print(const char *word, const uint64_t *numbers, size_t count)
-{
-    fputs(word, stdout);
-    for (size_t i = 0; i < count; i++) {
-        printf(" %" PRIu64, numbers[i]);
-    }
-    putchar('\n');
-}
+#include "print.h"
 
 static void print_constants(void)
 {
