@@ -1,5 +1,6 @@
 pub mod Entries
 pub mod Places
+pub mod Whole
 pub mod Sizes
 pub mod Lines
 pub mod Accepted

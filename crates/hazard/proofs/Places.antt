@@ -12,7 +12,7 @@ use Rattle.members.specs.declared.limits.{Row.Row, Fraction.Fraction}
 use Rattle.members.specs.Limits.{row, interp, rowLimit, segment}
 use Rattle.members.proofs.Interpolation.{up-to, inside, past, alone}
 use Rattle.hazard.specs.Tables.{Six, shortPeriod, oneSecond}
-use Rattle.hazard.specs.Site.{between, rowAt, thousandths, factor, entryExact, entryOf}
+use Rattle.hazard.specs.Site.{between, rowAt, exactly, thousandths, factor, entryExact, entryOf}
 
 -- columns at rising places
 pub record Rising (at : Six) : Type 0 where
@@ -61,9 +61,20 @@ module _ (at f : Six) (r : Rising at) where
       let e : thousandths (segment r5 r6 (at .c6)) ≡ f .c6 * 100 * (at .c6 - at .c5) / (at .c6 - at .c5) = rw z (ap (λ (n : ℕ). n / (at .c6 - at .c5)) (omega arith)) in
       ap thousandths (past-fourth (at .c6) (omega arith) ∙ inside r5 r6 [] (at .c6) (omega arith) (omega arith)) ∙ e ∙ mul-div-cancel (f .c6 * 100) (omega arith)
 
-  past-last : (x : ℕ) → at .c6 < x → thousandths (between at f x) ≡ f .c6 * 100
+  beyond-last : (x : ℕ) → at .c6 < x → between at f x ≡ rowLimit r6
   unfolding r5 r6
-  past-last x h = ap thousandths (past-fourth x (omega arith) ∙ past r5 r6 [] x (omega arith) h ∙ alone r6 x) ∙ div-one (f .c6 * 100)
+  beyond-last x h = past-fourth x (omega arith) ∙ past r5 r6 [] x (omega arith) h ∙ alone r6 x
+
+  past-last : (x : ℕ) → at .c6 < x → thousandths (between at f x) ≡ f .c6 * 100
+  unfolding r6
+  past-last x h = ap thousandths (beyond-last x h) ∙ div-one (f .c6 * 100)
+
+  -- up to the first column and past the last the value is the column's own
+  pub own-low : (x : ℕ) → x ≤ at .c1 → between at f x .den ≡ 1
+  own-low x h = ap (λ (g : Fraction). g .den) (up-to-first x h)
+
+  pub own-high : (x : ℕ) → at .c6 < x → between at f x .den ≡ 1
+  own-high x h = ap (λ (g : Fraction). g .den) (beyond-last x h)
 
   pub is-held : (x : ℕ) → thousandths (between at f x) ≡ thousandths (between at f (held at x))
   is-held x = go (decLe x (at .c1)) (decLe x (at .c6))
@@ -82,10 +93,10 @@ module _ (at f : Six) (r : Rising at) where
       go (no h) (yes k) = rw (within (omega arith) k) refl
       go (no h) (no k) = rw (high (omega arith)) (past-last x (omega arith) ∙ sym at-last)
 
-short-rising : Rising (shortPeriod .columns)
+pub short-rising : Rising (shortPeriod .columns)
 short-rising = record { first = omega arith; second = omega arith; third = omega arith; fourth = omega arith; fifth = omega arith }
 
-long-rising : Rising (oneSecond .columns)
+pub long-rising : Rising (oneSecond .columns)
 long-rising = record { first = omega arith; second = omega arith; third = omega arith; fourth = omega arith; fifth = omega arith }
 
 row-short : (j x : ℕ) → x < 126 → (j * 126 + x) / 126 ≡ j
@@ -109,23 +120,30 @@ pub long-held : (j x : ℕ) → factor oneSecond j x ≡ factor oneSecond j (hel
 unfolding factor
 long-held j x = is-held (oneSecond .columns) (rowAt oneSecond j) long-rising x
 
+-- the numbers of a class in the table
+pub short-at : (j p : ℕ) → j < 5 → p < 126 → entryExact (j * 126 + p) ≡ exactly shortPeriod j (25 + p)
+unfolding entryExact
+short-at j p h l =
+    let e : ltb (j * 126 + p) 630 ≡ true = lt-ltb (j * 126 + p) 630 (omega arith) in
+    rw (e, row-short j p l, past-short j p l)
+
+pub long-at : (j p : ℕ) → j < 5 → p < 51 → entryExact (630 + j * 51 + p) ≡ exactly oneSecond j (10 + p)
+unfolding entryExact
+long-at j p h l =
+    let e : ltb (630 + j * 51 + p) 630 ≡ false = le-ltb (630 + j * 51 + p) 630 (omega arith) in
+    rw (e, row-long j p l, past-long j p l)
+
 -- F_S and F_1 are numbers of the table
 pub short-place : (j x : ℕ) → j < 5 → factor shortPeriod j x ≡ entryOf (j * 126 + (held (shortPeriod .columns) x - 25))
-unfolding factor entryExact
+unfolding factor
 short-place j x h =
     let p = held (shortPeriod .columns) x - 25 in
-    let l : p < 126 = omega arith in
-    let e : ltb (j * 126 + p) 630 ≡ true = lt-ltb (j * 126 + p) 630 (omega arith) in
     let z : 25 + p ≡ held (shortPeriod .columns) x = omega arith in
-    rw (e, row-short j p l, past-short j p l, z)
-    (short-held j x)
+    rw (short-at j p h (omega arith), z) (short-held j x)
 
 pub long-place : (j x : ℕ) → j < 5 → factor oneSecond j x ≡ entryOf (630 + j * 51 + (held (oneSecond .columns) x - 10))
-unfolding factor entryExact
+unfolding factor
 long-place j x h =
     let p = held (oneSecond .columns) x - 10 in
-    let l : p < 51 = omega arith in
-    let e : ltb (630 + j * 51 + p) 630 ≡ false = le-ltb (630 + j * 51 + p) 630 (omega arith) in
     let z : 10 + p ≡ held (oneSecond .columns) x = omega arith in
-    rw (e, row-long j p l, past-long j p l, z)
-    (long-held j x)
+    rw (long-at j p h (omega arith), z) (long-held j x)
