@@ -28,7 +28,7 @@ extern "C" {
  * The form of the calls as this header has it. A program holds it against llunareth_version() once, before any other call: each change of a
  * call, and each call that is added, raises it.
  */
-#define LLUNARETH_VERSION 4
+#define LLUNARETH_VERSION 5
 
 /* How many numbers a record has. */
 enum {
