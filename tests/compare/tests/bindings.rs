@@ -198,7 +198,7 @@ fn verdict_on_what_cannot_be_read_or_written() {
 #[test]
 fn verdict_with_another_version_of_the_library() {
     let other = own("other_version.c");
-    fs::write(&other, "unsigned long __wrap_llunareth_version(void) { return 5; }\n").expect("written");
+    fs::write(&other, format!("unsigned long __wrap_llunareth_version(void) {{ return {}; }}\n", raw::VERSION + 1)).expect("written");
     let mut compiler = compiler("gcc", "-std=c99");
     let program = build(compiler.arg(other).arg("-Wl,--wrap=llunareth_version"), "bindings/c/verdict.c", "verdict_other");
     let output = Command::new(program).arg(samples::folder().join("walls.survey")).output().expect("verdict starts");
