@@ -1,6 +1,7 @@
 /*
  * The calls of Llunareth for programs in C (C99 and later) and C++. Link with target/staticlib/libexports.a, which `rt staticlib exports`
- * makes. docs/CALLS.md has the calls and their refusals; docs/FORMAT.md has the survey file and the fields with their units and ranges.
+ * makes. docs/CALLS.md has the calls and their refusals; docs/FORMAT.md has the survey file and the fields with their units and ranges;
+ * docs/SPECTRUM.md has the codes and units of sites and spectra.
  *
  * A buffer is handed over as a pointer and the number of its elements. The pointer is not null, also where there are none, and a buffer that
  * a call may change overlaps no other.
@@ -27,7 +28,7 @@ extern "C" {
  * The form of the calls as this header has it. A program holds it against llunareth_version() once, before any other call: each change of a
  * call, and each call that is added, raises it.
  */
-#define LLUNARETH_VERSION 4
+#define LLUNARETH_VERSION 5
 
 /* How many numbers a record has. */
 enum {
@@ -44,6 +45,23 @@ enum {
     LLUNARETH_RATIO_SCALE = 100000,     /* 1: m and its limit, n_D, the total of n_D */
     LLUNARETH_ROTATION_SCALE = 1000000, /* rad: rotations and their limits, tilts */
     LLUNARETH_FORCE_SCALE = 10          /* kN: forces (N_D and N_K after LLUNARETH_ZERO_FORCE is taken away); kNm: moments */
+};
+
+/* The same of sites and spectra (docs/SPECTRUM.md). */
+enum {
+    LLUNARETH_MAP_SCALE = 100,         /* 1: the map coefficients S_S and S_1 */
+    LLUNARETH_FACTOR_SCALE = 1000,     /* 1: F_S and F_1 */
+    LLUNARETH_SPECTRUM_SCALE = 100000, /* g: S_DS, S_D1 and the spectrum */
+    LLUNARETH_PERIOD_SCALE = 1000      /* s: periods */
+};
+
+/* The site classes. */
+enum { LLUNARETH_ZA = 1, LLUNARETH_ZB = 2, LLUNARETH_ZC = 3, LLUNARETH_ZD = 4, LLUNARETH_ZE = 5, LLUNARETH_ZF = 6 };
+
+/* The uses of a building: the two groups of table 2.1. */
+enum {
+    LLUNARETH_USE_DD1 = 1, /* group 1, of DD-1 */
+    LLUNARETH_USE_DD2 = 2  /* group 2, of DD-2 */
 };
 
 /* What llunareth_determine takes and lends: the longest file and the rows it is read into, and the longest sheet. */
@@ -179,6 +197,21 @@ enum {
     LLUNARETH_WRITE_VALUES = 1  /* how many values there are */
 };
 
+/* Places of the values of llunareth_site_coefficients. */
+enum {
+    LLUNARETH_SITE_FS = 0,    /* thousandths, as F_1 */
+    LLUNARETH_SITE_F1 = 1,
+    LLUNARETH_SITE_SDS = 2,   /* hundred-thousandths, as S_D1 */
+    LLUNARETH_SITE_SD1 = 3,
+    LLUNARETH_SITE_VALUES = 4 /* how many values there are */
+};
+
+/* Places of the values of llunareth_spectrum. */
+enum {
+    LLUNARETH_SPECTRUM_VALUE = 0, /* hundred-thousandths */
+    LLUNARETH_SPECTRUM_VALUES = 1 /* how many values there are */
+};
+
 /* The form of the calls as the library has it: LLUNARETH_VERSION, or the library is not for this header. */
 uint64_t llunareth_version(void);
 
@@ -240,6 +273,20 @@ uint64_t llunareth_write(const uint64_t *header, size_t header_len, const struct
  * bytes alone.
  */
 size_t llunareth_determine(const uint8_t *file, size_t file_len, uint8_t *text, size_t text_len);
+
+/*
+ * The coefficients of a site: its class and its map coefficients S_S and S_1 in hundredths. Refused by 14 where a map coefficient is not 1 to
+ * 999, then by 3 where the class is not 1 to 6.
+ */
+uint64_t llunareth_site_coefficients(uint64_t site_class, uint64_t ss, uint64_t s1, uint64_t *out, size_t out_len);
+
+/*
+ * The spectrum of a site class and a use at a period in milliseconds, by the map coefficients of DD-1 and of DD-2 in hundredths; both are taken for
+ * either use. Refused by 14 where a map coefficient is not 1 to 999 or the period is above 99,999, then by 3 where the class is not 1 to 6 or
+ * the use not 1 or 2.
+ */
+uint64_t llunareth_spectrum(uint64_t site_class, uint64_t usage, uint64_t dd1_ss, uint64_t dd1_s1, uint64_t dd2_ss, uint64_t dd2_s1,
+                            uint64_t period, uint64_t *out, size_t out_len);
 
 #ifdef __cplusplus
 }

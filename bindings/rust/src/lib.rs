@@ -1,14 +1,17 @@
 //! The proved calls of Llunareth for programs in Rust: read a survey file, check a record, judge a member, a storey and a building, write the
-//! report, write a survey as a file. docs/CALLS.md has the calls and their refusals, docs/FORMAT.md the survey file and its fields.
+//! report, write a survey as a file, find a site's coefficients and its spectrum. docs/CALLS.md has the calls and their refusals, docs/FORMAT.md
+//! the survey file and its fields, docs/SPECTRUM.md the codes and units of sites and spectra.
 //!
 //! No call relies on checks made before it: every file and record, good or bad, yields an answer or a refusal. Every call panics where the
 //! linked library has another form of the calls than this package knows ([`raw::VERSION`]).
 mod findings;
 pub mod raw;
 mod records;
+mod spectrum;
 
 pub use findings::{BuildingFinding, MemberFinding, Refusal, StoreyFinding};
 pub use records::{Header, LoadCase, Member, Storey, Survey, FORCE_SCALE, RATIO_SCALE, ROTATION_SCALE, WRITE_MOST, ZERO_FORCE};
+pub use spectrum::{site_coefficients, spectrum, Motion, SiteFinding, FACTOR_SCALE, MAP_SCALE, PERIOD_SCALE, SPECTRUM_SCALE};
 
 /// The values that a call puts out.
 fn values<const N: usize>(call: impl FnOnce(&mut [u64]) -> u64) -> Result<[u64; N], Refusal> {

@@ -6,11 +6,11 @@
 //! [`SHORT`] before anything else, and leaves everything as it was too.
 //!
 //! Each call panics where the linked library has another form of the calls than [`VERSION`].
-use crate::{Member, Storey};
+use crate::{Member, Motion, Storey};
 use std::sync::OnceLock;
 
 /// The form of the calls that this package knows.
-pub const VERSION: u64 = 4;
+pub const VERSION: u64 = 5;
 
 /// Returned where `out` is too short for a call's values; no refusal has this number.
 pub const SHORT: u64 = 255;
@@ -35,6 +35,12 @@ pub const REPORT_VALUES: usize = 1;
 
 /// How many values [`write`] puts out.
 pub const WRITE_VALUES: usize = 1;
+
+/// How many values [`site_coefficients`] puts out.
+pub const SITE_VALUES: usize = 4;
+
+/// How many values [`spectrum`] puts out.
+pub const SPECTRUM_VALUES: usize = 1;
 
 extern "C" {
     fn llunareth_version() -> u64;
@@ -96,6 +102,18 @@ extern "C" {
         out_len: usize,
     ) -> u64;
     fn llunareth_determine(file: *const u8, file_len: usize, text: *mut u8, text_len: usize) -> usize;
+    fn llunareth_site_coefficients(class: u64, ss: u64, s1: u64, out: *mut u64, out_len: usize) -> u64;
+    fn llunareth_spectrum(
+        class: u64,
+        usage: u64,
+        dd1_ss: u64,
+        dd1_s1: u64,
+        dd2_ss: u64,
+        dd2_s1: u64,
+        period: u64,
+        out: *mut u64,
+        out_len: usize,
+    ) -> u64;
 }
 
 /// The form of the calls that the linked library has.
@@ -227,6 +245,18 @@ pub fn determine(file: &[u8], text: &mut [u8]) -> usize {
     unsafe { llunareth_determine(file.as_ptr(), file.len(), text.as_mut_ptr(), text.len()) }
 }
 
+/// The coefficients of a site. Values: F_S, F_1, S_DS, S_D1.
+pub fn site_coefficients(class: u64, ss: u64, s1: u64, out: &mut [u64]) -> u64 {
+    expect_version();
+    unsafe { llunareth_site_coefficients(class, ss, s1, out.as_mut_ptr(), out.len()) }
+}
+
+/// The spectrum of a site, a use and both levels' map coefficients at a period. Values: the spectrum.
+pub fn spectrum(class: u64, usage: u64, dd1: Motion, dd2: Motion, period: u64, out: &mut [u64]) -> u64 {
+    expect_version();
+    unsafe { llunareth_spectrum(class, usage, dd1.ss, dd1.s1, dd2.ss, dd2.s1, period, out.as_mut_ptr(), out.len()) }
+}
+
 #[cfg(test)]
 mod tests {
     use super::{expect, version, VERSION};
@@ -237,8 +267,8 @@ mod tests {
     }
 
     #[test]
-    #[should_panic(expected = "the linked library has version 5 of the calls, this package version 4")]
+    #[should_panic(expected = "the linked library has version 6 of the calls, this package version 5")]
     fn another_version() {
-        expect(5);
+        expect(6);
     }
 }

@@ -16,7 +16,7 @@ use Rattle.storeys.specs.Building.{Answers, returnedBuilding}
 
 -- the form of the calls: a change of one raises it
 abbrev pub version : ℕ
-version = 4
+version = 5
 
 -- how many values each call puts to the front of `out`
 abbrev pub readingCount : ℕ

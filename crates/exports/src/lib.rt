@@ -3,6 +3,7 @@ pub mod judge_calls;
 pub mod reading_call;
 pub mod record_checks;
 pub mod report_calls;
+pub mod spectrum_calls;
 pub mod version;
 pub mod writing_call;
 

@@ -1,6 +1,7 @@
 // Records handed in as numbers, and answers put out as numbers: what the calls for other languages share.
 pub mod answers;
 pub mod given;
+pub mod site_answers;
 
 ghost use mathlib.Core.Path.{_≡_};
 ghost use Prim.Native.Nat.{ℕ, _<_};

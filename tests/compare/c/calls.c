@@ -7,8 +7,7 @@
 #include <string.h>
 
 #include "llunareth.h"
-
-#define COUNT(array) (sizeof(array) / sizeof((array)[0]))
+#include "print.h"
 
 enum { FILE_ROOM = 100000 };
 
@@ -17,15 +16,6 @@ static uint8_t text[LLUNARETH_SHEET_MOST];
 static uint8_t written[FILE_ROOM];
 static struct llunareth_storey storeys[LLUNARETH_STOREY_ROWS];
 static struct llunareth_member members[LLUNARETH_MEMBER_ROWS];
-
-static void print(const char *word, const uint64_t *numbers, size_t count)
-{
-    fputs(word, stdout);
-    for (size_t i = 0; i < count; i++) {
-        printf(" %" PRIu64, numbers[i]);
-    }
-    putchar('\n');
-}
 
 /* The figures that a program calls by name. */
 static void print_constants(void)

@@ -74,6 +74,16 @@ static void write_file(void)
                               LLUNARETH_WRITE_VALUES);
 }
 
+static void site_coefficients(void)
+{
+    refused = llunareth_site_coefficients(LLUNARETH_ZE, 110, 35, out, LLUNARETH_SITE_VALUES);
+}
+
+static void spectrum(void)
+{
+    refused = llunareth_spectrum(LLUNARETH_ZE, LLUNARETH_USE_DD1, 190, 60, 110, 35, 7000, out, LLUNARETH_SPECTRUM_VALUES);
+}
+
 static void determine(void)
 {
     refused = llunareth_determine(file, file_len, text, TEXT_ROOM) == 0 || text[0] != 'M';
@@ -132,6 +142,7 @@ int main(int argc, char **argv)
     good = measure("llunareth_header_fault", check_header) && measure("llunareth_storey_fault", check_storey)
         && measure("llunareth_member_fault", check_member) && measure("llunareth_judge_member", judge_member)
         && measure("llunareth_judge_storey", judge_storey) && measure("llunareth_judge_building", judge_building)
-        && measure("llunareth_report", report) && measure("llunareth_write", write_file) && load(argv[2]) && measure("llunareth_determine", determine);
+        && measure("llunareth_report", report) && measure("llunareth_write", write_file)
+        && measure("llunareth_site_coefficients", site_coefficients) && measure("llunareth_spectrum", spectrum) && load(argv[2]) && measure("llunareth_determine", determine);
     return good ? 0 : 1;
 }

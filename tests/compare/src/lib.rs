@@ -1,5 +1,7 @@
 //! The proved library called from Rust, and its answers as the independent program's types.
+pub mod picture;
 pub mod samples;
+pub mod spectrum;
 
 use generator::{edge_member_for, Rng};
 use independent::{Header, Member, MemberFinding, Refusal, Storey, StoreyFinding, Survey};

@@ -1,6 +1,7 @@
 //! Compares the proved library with the independent program on generated files and records: compare SEED COUNT
+use compare::spectrum::{same_site, same_spectrum};
 use compare::{file_len, same_building, same_determine, same_file, same_member, same_report, same_storey, sheet_len};
-use generator::{any_file, edge_member_for, lent_bytes, lent_rows, valid_survey, wild_member, wild_survey, Rng};
+use generator::{any_file, edge_member_for, lent_bytes, lent_rows, map_coefficients, period, site_class, usage, valid_survey, wild_member, wild_survey, Rng};
 use independent::Survey;
 
 /// The files on which the reading calls differ. Each is determined as well, in a buffer of some length.
@@ -32,6 +33,14 @@ fn compare_survey(rng: &mut Rng, survey: &Survey) {
     }
 }
 
+/// A site, and a spectrum by two levels of ground motion.
+fn compare_spectrum(rng: &mut Rng) {
+    let (class, usage) = (site_class(rng), usage(rng));
+    let (dd1, dd2) = (map_coefficients(rng), map_coefficients(rng));
+    let _ = same_site(class, dd1.ss, dd1.s1);
+    let _ = same_spectrum(class, usage, dd1, dd2, period(rng, class, dd2));
+}
+
 fn main() {
     let mut args = std::env::args().skip(1).map(|a| a.parse::<u64>().expect("a number"));
     let (seed, count) = (args.next().unwrap_or(1), args.next().unwrap_or(10_000));
@@ -45,8 +54,9 @@ fn main() {
         let (valid, wild) = (valid_survey(&mut rng), wild_survey(&mut rng));
         compare_survey(&mut rng, &valid);
         compare_survey(&mut rng, &wild);
+        compare_spectrum(&mut rng);
     }
-    println!("seed {seed}: {count} files, {differences} differences; members, storeys, buildings, reports, written files and printed sheets agree");
+    println!("seed {seed}: {count} files, {differences} differences; members, storeys, buildings, reports, written files, printed sheets, sites and spectra agree");
     if differences > 0 {
         std::process::exit(1);
     }

@@ -3,8 +3,8 @@ use compare::{
     header_numbers, judge_building, member_numbers, member_rows, plain_column, refusal_told, same_building, same_member, samples,
     storey_numbers, worked_example,
 };
-use generator::{any_file, valid_survey, write_survey, Rng};
-use independent::{Header, Member, Storey, Survey};
+use generator::{any_file, map_coefficients, period, site_class, usage, valid_survey, write_survey, Rng};
+use independent::{Header, Member, Motion, Storey, Survey};
 use llunareth::raw;
 use std::fs::{self, File};
 use std::io::Write;
@@ -198,7 +198,7 @@ fn verdict_on_what_cannot_be_read_or_written() {
 #[test]
 fn verdict_with_another_version_of_the_library() {
     let other = own("other_version.c");
-    fs::write(&other, "unsigned long __wrap_llunareth_version(void) { return 5; }\n").expect("written");
+    fs::write(&other, format!("unsigned long __wrap_llunareth_version(void) {{ return {}; }}\n", raw::VERSION + 1)).expect("written");
     let mut compiler = compiler("gcc", "-std=c99");
     let program = build(compiler.arg(other).arg("-Wl,--wrap=llunareth_version"), "bindings/c/verdict.c", "verdict_other");
     let output = Command::new(program).arg(samples::folder().join("walls.survey")).output().expect("verdict starts");
@@ -314,10 +314,50 @@ fn every_call_by_the_names_of_the_header() {
     }
 }
 
+/// A site class, a use, the map coefficients of DD-1 and of DD-2, and a period.
+fn sites() -> Vec<[u64; 7]> {
+    let mut rng = Rng::new(SEED + 2);
+    let site = |rng: &mut Rng| {
+        let (class, usage, dd1, dd2) = (site_class(rng), usage(rng), map_coefficients(rng), map_coefficients(rng));
+        [class, usage, dd1.ss, dd1.s1, dd2.ss, dd2.s1, period(rng, class, dd2)]
+    };
+    (0..2_000).map(|_| site(&mut rng)).collect()
+}
+
+/// What spectrum.c prints for a site.
+fn site_lines([class, usage, ss1, s11, ss2, s12, period]: [u64; 7]) -> String {
+    let found = match independent::site(class, ss1, s11) {
+        Ok(f) => [0, f.f_s, f.f_1, f.s_ds, f.s_d1],
+        Err(refusal) => [refusal.number.into(), 0, 0, 0, 0],
+    };
+    let (dd1, dd2) = (Motion { ss: ss1, s1: s11 }, Motion { ss: ss2, s1: s12 });
+    let value = match independent::spectrum(class, usage, dd1, dd2, period) {
+        Ok(value) => [0, value],
+        Err(refusal) => [refusal.number.into(), 0],
+    };
+    line("site", &found) + &line("spectrum", &value) + "short 255 255 0\n"
+}
+
+#[test]
+fn sites_and_spectra_by_the_names_of_the_header() {
+    let scales = [llunareth::MAP_SCALE, llunareth::FACTOR_SCALE, llunareth::SPECTRUM_SCALE, llunareth::PERIOD_SCALE];
+    let values = [raw::SITE_VALUES, raw::SPECTRUM_VALUES].map(|n| n as u64);
+    let constants = line("scales", &scales) + &line("codes", &[1, 2, 3, 4, 5, 6, 1, 2]) + &line("values", &values);
+    let expected: String = constants + &sites().into_iter().map(site_lines).collect::<String>();
+    let input: String = sites().iter().map(|site| line("", site)).collect();
+    for (name, standard, _) in languages() {
+        let program = build(&mut compiler(name, standard), "tests/compare/c/spectrum.c", &format!("spectrum{standard}"));
+        let path = own(&format!("sites{standard}"));
+        fs::write(&path, &input).expect("written");
+        let (printed, code) = outcome(Command::new(&program).stdin(File::open(&path).expect("a file")).output().expect("spectrum starts"));
+        assert!(printed == expected && code == Some(0), "{name} {standard}");
+    }
+}
+
 // ---- the stack of each call ----
 
 /// Bytes that each call takes at most, as docs/CALLS.md states them.
-const STACKS: [(&str, usize); 10] = [
+const STACKS: [(&str, usize); 12] = [
     ("llunareth_read", 5_000),
     ("llunareth_header_fault", 1_000),
     ("llunareth_storey_fault", 1_000),
@@ -327,6 +367,8 @@ const STACKS: [(&str, usize); 10] = [
     ("llunareth_judge_building", 3_000),
     ("llunareth_report", 4_000),
     ("llunareth_write", 3_000),
+    ("llunareth_site_coefficients", 3_000),
+    ("llunareth_spectrum", 3_000),
     ("llunareth_determine", 72_000),
 ];
 

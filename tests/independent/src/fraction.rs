@@ -47,6 +47,14 @@ impl Fraction {
         )
     }
 
+    /// The other must be above zero.
+    pub fn divided_by(self, other: Fraction) -> Fraction {
+        Fraction::new(
+            self.numerator * other.denominator,
+            self.denominator * other.numerator,
+        )
+    }
+
     pub fn exceeds(self, other: Fraction) -> bool {
         self.minus(other).numerator > 0
     }
@@ -82,6 +90,8 @@ mod tests {
         assert_eq!(half.plus(third), Fraction::new(5, 6));
         assert_eq!(half.minus(third), Fraction::new(1, 6));
         assert_eq!(half.times(third), Fraction::new(1, 6));
+        assert_eq!(half.divided_by(third), Fraction::new(3, 2));
+        assert_eq!(Fraction::whole(0).divided_by(half), Fraction::whole(0));
         assert!(half.exceeds(third));
         assert!(!half.exceeds(half));
         assert!(!third.exceeds(half));

@@ -1,5 +1,6 @@
 //! Risk verdict for low-rise reinforced concrete: a second program after
-//! document 01, with requests N1, N2 and N10 of document 02, for comparison.
+//! document 01, with requests N1, N2, N8 and N10 of document 02, for
+//! comparison.
 //!
 //! NOTES.md lists the points that the papers leave open and what the requests
 //! changed.
@@ -9,12 +10,15 @@ pub mod members;
 pub mod reading;
 pub mod records;
 pub mod report;
+pub mod spectrum;
 pub mod storeys;
 pub mod writing;
 
+pub use fraction::Fraction;
 pub use members::{judge_member, MemberFinding};
 pub use reading::{read, Survey};
 pub use records::{Header, Member, Refusal, Storey};
 pub use report::{determine, report};
+pub use spectrum::{site, site_table, spectrum, Motion, SiteFinding};
 pub use storeys::{judge_building, judge_storey, BuildingFinding, StoreyFinding};
 pub use writing::write_survey;

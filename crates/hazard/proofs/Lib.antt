@@ -1,0 +1,10 @@
+pub mod Entries
+pub mod Places
+pub mod Whole
+pub mod Sizes
+pub mod Lines
+pub mod Accepted
+pub mod Told
+pub mod Falling
+pub mod Rising
+pub mod Order
