@@ -17,28 +17,34 @@ pub(crate) fn number_of(m: Member) -> u64
     m.number
 }
 
+pub(crate) fn form_of(h: Header) -> u64
+    ensures { λ r. ⌜ r ≡ h .form ⌝ }
+{
+    h.form
+}
+
 pub(crate) fn storey_number(s: Storey) -> u64
     ensures { λ r. ⌜ r ≡ s .number ⌝ }
 {
     s.number
 }
 
-// A member's 3 and 4, then the 5 that is handed in.
-pub(crate) fn row_fault(m: Member, repeated: u64) -> u64
-    ensures { λ r. ⌜ r ≡ inOrder (memberFault m ∷ repeated ∷ []) ⌝ }
+// A member's 3 and 4 in its form, then the 5 that is handed in.
+pub(crate) fn row_fault(form: u64, m: Member, repeated: u64) -> u64
+    ensures { λ r. ⌜ r ≡ inOrder (memberFault form m ∷ repeated ∷ []) ⌝ }
 {
-    let f = member_fault(m);
+    let f = member_fault(form, m);
     if f != 0 {
         return f;
     }
     repeated
 }
 
-// A storey's 3, then the 5 that is handed in.
-pub(crate) fn storey_row_fault(s: Storey, repeated: u64) -> u64
-    ensures { λ r. ⌜ r ≡ inOrder (storeyFault s ∷ repeated ∷ []) ⌝ }
+// A storey's 3 in its form, then the 5 that is handed in.
+pub(crate) fn storey_row_fault(form: u64, s: Storey, repeated: u64) -> u64
+    ensures { λ r. ⌜ r ≡ inOrder (storeyFault form s ∷ repeated ∷ []) ⌝ }
 {
-    let f = storey_fault(s);
+    let f = storey_fault(form, s);
     if f != 0 {
         return f;
     }

@@ -1,11 +1,11 @@
 // The report call, and the way from a file's bytes to the sheet's.
 ghost use mathlib.Core.Path.{_≡_};
 ghost use lib.ListN.{length};
-ghost use Rattle.records.specs.Records.{headerBy, surveyOf};
+ghost use Rattle.records.specs.Records.{surveyOf};
 ghost use Rattle.columns.specs.Line.{atFront, putLength};
 ghost use Rattle.report.specs.Sheet.{reportReturned, bufferAfter};
 ghost use Rattle.determination.specs.Determination.{printed};
-ghost use Rattle.words.specs.Words.{handed};
+ghost use Rattle.words.specs.Words.{headerHanded};
 ghost use Rattle.exports.specs.Calls.{reportCount, ifRoom, given, outAfter};
 use crate::SHORT;
 use determination::determine;
@@ -26,9 +26,9 @@ pub extern "C" fn llunareth_report(
     sheet: &mut [u8],
     out: &mut [u64],
 ) -> u64
-    ensures { λ r. ⌜ r ≡ given reportCount (reportReturned (surveyOf (headerBy (handed (now (header .entry)))) (now (storeys .entry)) (now (members .entry))) (length (now (sheet .entry)))) (now (out .entry)) ⌝ }
-    ensures { λ _. ⌜ now (out .exit) ≡ outAfter reportCount (reportReturned (surveyOf (headerBy (handed (now (header .entry)))) (now (storeys .entry)) (now (members .entry))) (length (now (sheet .entry)))) (now (out .entry)) ⌝ }
-    ensures { λ _. ⌜ now (sheet .exit) ≡ ifRoom reportCount (now (out .entry)) (bufferAfter (surveyOf (headerBy (handed (now (header .entry)))) (now (storeys .entry)) (now (members .entry))) (now (sheet .entry))) (now (sheet .entry)) ⌝ }
+    ensures { λ r. ⌜ r ≡ given reportCount (reportReturned (surveyOf (headerHanded (now (header .entry))) (now (storeys .entry)) (now (members .entry))) (length (now (sheet .entry)))) (now (out .entry)) ⌝ }
+    ensures { λ _. ⌜ now (out .exit) ≡ outAfter reportCount (reportReturned (surveyOf (headerHanded (now (header .entry))) (now (storeys .entry)) (now (members .entry))) (length (now (sheet .entry)))) (now (out .entry)) ⌝ }
+    ensures { λ _. ⌜ now (sheet .exit) ≡ ifRoom reportCount (now (out .entry)) (bufferAfter (surveyOf (headerHanded (now (header .entry))) (now (storeys .entry)) (now (members .entry))) (now (sheet .entry))) (now (sheet .entry)) ⌝ }
 {
     if out.len() < REPORT_COUNT {
         return SHORT;

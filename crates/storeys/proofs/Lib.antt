@@ -10,3 +10,4 @@ pub mod BuildingAnswers
 pub mod Returned
 pub mod Share
 pub mod Shears
+pub mod Cases

@@ -1,102 +1,102 @@
 -- The steps of a pass over a storey's rows: one record, and the tests of a storey.
-use Prim.Native.Nat.{ℕ, _+_, _*_, _-_, _≤_, _<_}
+use Prim.Native.Nat.{ℕ, _+_, _*_, _≤_, _<_}
 use native.Mathlib.Omega.{arith}
-use native.Mathlib.Nat.{mul-le-mul}
 use mathlib.Core.Bool.{Bool, true, false, _&&_, _||_, or-true, or-false}
-use mathlib.Core.Path.{_≡_, refl, sym, ap, _∙_}
+use mathlib.Core.Path.{_≡_, refl, ap, _∙_}
 use lib.Dec.{leb, ltb}
-use borrow.Author.Tests.{leb-true, ltb-true, le-leb, lt-ltb, le-ltb}
-use Rattle.storeys.specs.Storey.{exceedsShare}
+use borrow.Author.Tests.{leb-true, ltb-true, ltb-false, le-leb, lt-leb, lt-ltb, le-ltb}
 use Rattle.storeys.specs.declared.row.Tally.{Tally}
-use Rattle.storeys.specs.Totals.{membersMost, shearMost, totalMost, weightOf, riskyBy, riskyIn, addedBy, takesOne, withFinding}
-use Rattle.storeys.specs.Tally.{added, AddsUp, AddsNumbers}
-use Rattle.records.specs.Records.{memberFault, inCase}
-use Rattle.records.specs.declared.Member.{Member}
+use Rattle.storeys.specs.declared.StoreyFinding.{StoreyFinding}
+use Rattle.storeys.specs.Storey.{allowedShare, exceedsShare}
+use Rattle.storeys.specs.Totals.{membersMost, shearMost, totalMost, weightOf, oneOver, pastMost, withinMost, beyondMost, foundBy, addedBy, takesOne, withFinding, addedWall}
+use Rattle.storeys.specs.Tally.{withMember, AddsUp, AddsNumbers}
+use Rattle.records.specs.Records.{memberCaseFault}
+use Rattle.records.specs.declared.MemberCase.{MemberCase}
 use Rattle.records.proofs.Below.{and-left, and-right}
 use Rattle.records.proofs.Validity.{valid}
 use Rattle.members.specs.Units.{ratioCap}
-use Rattle.members.proofs.Returned.{answer-is}
+use Rattle.members.specs.Class.{isWall}
+use Rattle.members.proofs.Returned.{case-answer-is}
 use Rattle.members.specs.declared.finding.Finding.{Finding}
-use Rattle.members.specs.declared.finding.MemberAnswer.{MemberAnswer}
-use Rattle.members.specs.declared.finding.MemberAnswer.the-variants.{Judged, Refused}
+use Rattle.members.specs.declared.finding.CaseAnswer.{CaseAnswer}
+use Rattle.members.specs.declared.finding.CaseAnswer.the-variants.{Judged, Refused}
 use Rattle.members.specs.declared.tables.Share.{Share}
+use Rattle.members.specs.declared.limits.Fraction.{Fraction}
 use Rattle.members.specs.Tables.{published, publishedShare}
-use Rattle.members.specs.Finding.{axial, axialRatioD, finding, findingBy, knowledge, answerBy, returned, memberReturned}
-
--- the order in which the tests of a storey are made
-or-first : (x z : Bool) → x ≡ true → true ≡ (x || z)
-or-first x z e = rw e
-
-or-last : (x y z : Bool) → z ≡ true → true ≡ (x || (y || z))
-or-last x y z e = rw (e, or-true y, or-true x)
-
-or-none : (x y z s : Bool) → x ≡ false → z ≡ false → y ≡ false → false ≡ (x || ((y && s) || z))
-or-none x y z s e f g = rw (e, f, g)
-
-or-some : (x y z s : Bool) → x ≡ false → z ≡ false → y ≡ true → s ≡ (x || ((y && s) || z))
-or-some x y z s e f g = rw (e, f, g) (sym (or-false s))
-
-module _ (share : Share) (shear : ℕ) (t : Tally) where
-  abbrev shared : Bool
-  shared = exceedsShare share (t .«axial_total») (t .members) (t .«over_shear») shear
-
-  abbrev loaded : Bool
-  loaded = ltb (share .ends .r2 * t .members) (t .«axial_total»)
-
-  abbrev hurt : Bool
-  hurt = leb (7 * t .members) (t .damage)
-
-  pub risky-first : shared ≡ true → true ≡ riskyBy share shear t
-  risky-first e = or-first shared _ e
-
-  pub risky-second : hurt ≡ true → true ≡ riskyBy share shear t
-  risky-second e = or-last shared (loaded && t .some) hurt e
-
-  pub risky-third : shared ≡ false → hurt ≡ false → loaded ≡ false → false ≡ riskyBy share shear t
-  risky-third e f g = or-none shared loaded hurt (t .some) e f g
-
-  pub risky-last : shared ≡ false → hurt ≡ false → loaded ≡ true → t .some ≡ riskyBy share shear t
-  risky-last e f g = or-some shared loaded hurt (t .some) e f g
+use Rattle.members.specs.Finding.{axial, axialRatioD, finding, findingBy, knowledge, caseAnswerBy, returnedCase, caseReturned}
 
 -- ---- a number past its most
+or-left : (a b : Bool) → (a || b) ≡ false → a ≡ false
+or-left true b e = e
+or-left false b e = refl
+
+or-right : (a b : Bool) → (a || b) ≡ false → b ≡ false
+or-right true b e = let z : _≡_ {A = ℕ} 0 1 = cc in absurd (omega arith)
+or-right false b e = e
+
 module _ (w : ℕ) (t : Tally) where
-  pub past-first : membersMost < t .members → true ≡ riskyIn w t
-  unfolding riskyIn
+  pub past-first : membersMost < t .members → true ≡ pastMost w t
   past-first h = rw (lt-ltb _ _ h)
 
   module _ (a : t .members ≤ membersMost) where
-    pub past-second : totalMost < t .«over_shear» → true ≡ riskyIn w t
-    unfolding riskyIn
+    pub past-second : totalMost < t .«over_shear» → true ≡ pastMost w t
     past-second h = rw (le-ltb _ _ a, lt-ltb _ _ h)
 
-    module _ (b : t .«over_shear» ≤ totalMost) where
-      pub past-third : shearMost < w → true ≡ riskyIn w t
-      unfolding riskyIn
-      past-third h = rw (le-ltb _ _ a, le-ltb _ _ b, lt-ltb _ _ h)
+    pub past-third : t .«over_shear» ≤ totalMost → ltb shearMost w ≡ pastMost w t
+    past-third b = rw (le-ltb _ _ a, le-ltb _ _ b)
 
-      pub past-none : w ≤ shearMost → (share : Share) (r : Bool) → share ≡ publishedShare → r ≡ riskyBy share w t → r ≡ riskyIn w t
-      unfolding riskyIn
-      past-none h share r e q = q ∙ rw (le-ltb _ _ a, le-ltb _ _ b, le-ltb _ _ h, e)
+  pub not-past : pastMost w t ≡ false → (t .members ≤ membersMost) × (t .«over_shear» ≤ totalMost) × (w ≤ shearMost)
+  not-past e =
+      let a = ltb membersMost (t .members) in
+      let b = ltb totalMost (t .«over_shear») in
+      let d = or-right a (b || ltb shearMost w) e in
+      (ltb-false _ _ (or-left a (b || ltb shearMost w) e), ltb-false _ _ (or-left b (ltb shearMost w) d), ltb-false _ _ (or-right b (ltb shearMost w) d))
+
+-- ---- the finding from the totals
+module _ (share : Share) (w : ℕ) (met : Bool) (t : Tally) where
+  pub within-is : (allowed : Fraction) (s o r : Bool) → allowed ≡ allowedShare share (t .«axial_total») (t .members) → s ≡ ltb (w * allowed .num) (100 * t .«over_shear» * allowed .den) → o ≡ oneOver share t → r ≡ (s || (o || leb (7 * t .members) (t .damage))) → record { «axial_total» = t .«axial_total»; members = t .members; «over_shear» = t .«over_shear»; shear = w; risky = r; «walls_suffice» = met; «by_share» = s; «by_one_over» = o; «by_damage» = leb (7 * t .members) (t .damage); allowed = record { num = allowed .num; den = 100 * allowed .den } } ≡ withinMost share w met t
+  unfolding exceedsShare
+  within-is allowed s o r e f g h = rw (h, f, g, e)
+
+pub found-past : (w : ℕ) (met : Bool) (t : Tally) → pastMost w t ≡ true → beyondMost w met t ≡ foundBy w met t
+unfolding foundBy
+found-past w met t e = rw e
+
+pub found-within : (share : Share) (w : ℕ) (met : Bool) (t : Tally) (f : StoreyFinding) → pastMost w t ≡ false → share ≡ publishedShare → f ≡ withinMost share w met t → f ≡ foundBy w met t
+unfolding foundBy
+found-within share w met t f e p q = q ∙ rw (e, p)
+
+-- ---- a wall's V
+module _ (t : ℕ) (m one : MemberCase) (e : one ≡ m) (a : t ≤ totalMost) where
+  pub wall-past : shearMost < one .case .shear → t ≡ addedWall t m
+  wall-past h = rw (← e, le-leb _ _ a, lt-leb _ _ h)
+
+  module _ (b : one .case .shear ≤ shearMost) where
+    pub wall-added : isWall one ≡ true → t + one .case .shear ≡ addedWall t m
+    wall-added w = rw (← e, le-leb _ _ a, le-leb _ _ b, w)
+
+    pub wall-other : isWall one ≡ false → t ≡ addedWall t m
+    wall-other w = rw (← e, le-leb _ _ a, le-leb _ _ b, w) (omega arith)
 
 -- ---- a good member is judged, and its n_D is a ratio
-module _ (k : ℕ) (met : Bool) (m : Member) (h : knowledge k ≡ true) (g : memberFault m ≡ 0) where
-  judged-good : answerBy published k met m ≡ Judged (finding k met (inCase m))
-  unfolding answerBy
+module _ (k : ℕ) (met : Bool) (m : MemberCase) (h : knowledge k ≡ true) (g : memberCaseFault m ≡ 0) where
+  judged-good : caseAnswerBy published k met m ≡ Judged (finding k met m)
+  unfolding caseAnswerBy
   judged-good = rw (h, g)
 
-  pub finding-same : (r : MemberAnswer) (f : Finding) → returned r ≡ memberReturned k met m → r ≡ Judged f → f ≡ finding k met (inCase m)
-  finding-same r f p q = let e = judged-good in let a = answer-is r (answerBy published k met m) p in cc
+  pub finding-same : (r : CaseAnswer) (f : Finding) → returnedCase r ≡ caseReturned k met m → r ≡ Judged f → f ≡ finding k met m
+  finding-same r f p q = let e = judged-good in let a = case-answer-is r (caseAnswerBy published k met m) p in cc
 
-  pub not-refused : (r : MemberAnswer) (n : ℕ) → returned r ≡ memberReturned k met m → r ≡ Refused n → ⊥
-  not-refused r n p q = let e = judged-good in let a = answer-is r (answerBy published k met m) p in let z : _≡_ {A = ℕ} 0 1 = cc in omega arith
+  pub not-refused : (r : CaseAnswer) (n : ℕ) → returnedCase r ≡ caseReturned k met m → r ≡ Refused n → ⊥
+  not-refused r n p q = let e = judged-good in let a = case-answer-is r (caseAnswerBy published k met m) p in let z : _≡_ {A = ℕ} 0 1 = cc in omega arith
 
-pub nd-most : (m : Member) → axialRatioD (inCase m) .0 ≤ ratioCap
+pub nd-most : (m : MemberCase) → axialRatioD m .0 ≤ ratioCap
 unfolding axial
 nd-most m = omega arith
 
 -- ---- what a member adds
 -- the test of the totals holds where each number leaves room, and there alone
-pub takes-room : (t : Tally) (nd : ℕ) (m : Member) → takesOne t nd (m .case .shear) ≡ true → AddsNumbers t nd m
+pub takes-room : (t : Tally) (nd : ℕ) (m : MemberCase) → takesOne t nd (m .case .shear) ≡ true → AddsNumbers t nd m
 takes-room t nd m e =
     let r5 = leb nd ratioCap && leb (m .case .shear) shearMost in
     let r4 = leb (t .damage) totalMost && r5 in
@@ -115,30 +115,30 @@ takes-room t nd m e =
       shear = leb-true (m .case .shear) shearMost (and-right (leb nd ratioCap) (leb (m .case .shear) shearMost) d);
     }
 
-pub room-takes : (t : Tally) (nd : ℕ) (m : Member) → AddsNumbers t nd m → takesOne t nd (m .case .shear) ≡ true
+pub room-takes : (t : Tally) (nd : ℕ) (m : MemberCase) → AddsNumbers t nd m → takesOne t nd (m .case .shear) ≡ true
 room-takes t nd m r =
     rw (lt-ltb _ _ (r .fewer), le-leb _ _ (r .axial-total), le-leb _ _ (r .over-shear), le-leb _ _ (r .damage), le-leb _ _ (r .ratio), le-leb _ _ (r .shear))
 
-pub with-taken : (t z : Tally) (f : Finding) (m : Member) → takesOne t (f .nd .0) (m .case .shear) ≡ true → z ≡ addedBy t (f .over) (f .nd .0) m → z ≡ withFinding t f m
+pub with-taken : (t z : Tally) (f : Finding) (m : MemberCase) → takesOne t (f .nd .0) (m .case .shear) ≡ true → z ≡ addedBy t (f .over) (f .nd .0) m → z ≡ withFinding t f m
 unfolding withFinding
 with-taken t z f m e q = rw e q
 
-pub with-left : (t : Tally) (f : Finding) (m : Member) → takesOne t (f .nd .0) (m .case .shear) ≡ false → t ≡ withFinding t f m
+pub with-left : (t : Tally) (f : Finding) (m : MemberCase) → takesOne t (f .nd .0) (m .case .shear) ≡ false → t ≡ withFinding t f m
 unfolding withFinding
 with-left t f m e = rw e
 
 -- a good member's finding is added
-pub with-good : (t : Tally) (k : ℕ) (met : Bool) (m : Member) (f : Finding) → AddsUp t k m → f ≡ finding k met (inCase m) → withFinding t f m ≡ added t k met m
-unfolding withFinding added findingBy
+pub with-good : (t : Tally) (k : ℕ) (met : Bool) (m : MemberCase) (f : Finding) → AddsUp t k m → f ≡ finding k met m → withFinding t f m ≡ withMember t k met m
+unfolding withFinding withMember findingBy
 with-good t k met m f u e =
     let v = valid m (u .good) in
-    let q : f .nd .0 ≡ axialRatioD (inCase m) .0 = ap (λ (x : Finding). x .nd .0) e in
+    let q : f .nd .0 ≡ axialRatioD m .0 = ap (λ (x : Finding). x .nd .0) e in
     let r : AddsNumbers t (f .nd .0) m =
     record { fewer = u .fewer; axial-total = u .axial-total; over-shear = u .over-shear; damage = u .damage; ratio = omega (arith, nd-most m, q); shear = v .shear } in
     rw (room-takes t (f .nd .0) m r) (rw e)
 
-pub added-over : (t : Tally) (o : Bool) (nd w : ℕ) (m : Member) → o ≡ true → w ≡ weightOf (m .damage) → record { members = t .members + 1; «axial_total» = t .«axial_total» + nd; «over_shear» = t .«over_shear» + m .case .shear; some = true; damage = t .damage + w } ≡ addedBy t o nd m
+pub added-over : (t : Tally) (o : Bool) (nd w : ℕ) (m : MemberCase) → o ≡ true → w ≡ weightOf (m .damage) → record { members = t .members + 1; «axial_total» = t .«axial_total» + nd; «over_shear» = t .«over_shear» + m .case .shear; some = true; damage = t .damage + w } ≡ addedBy t o nd m
 added-over t o nd w m e f = rw (e, f, or-true (t .some))
 
-pub added-under : (t : Tally) (o : Bool) (nd w : ℕ) (m : Member) → o ≡ false → w ≡ weightOf (m .damage) → record { members = t .members + 1; «axial_total» = t .«axial_total» + nd; «over_shear» = t .«over_shear»; some = t .some; damage = t .damage + w } ≡ addedBy t o nd m
+pub added-under : (t : Tally) (o : Bool) (nd w : ℕ) (m : MemberCase) → o ≡ false → w ≡ weightOf (m .damage) → record { members = t .members + 1; «axial_total» = t .«axial_total» + nd; «over_shear» = t .«over_shear»; some = t .some; damage = t .damage + w } ≡ addedBy t o nd m
 added-under t o nd w m e f = let z : t .«over_shear» + 0 ≡ t .«over_shear» = omega arith in rw (e, f, or-false (t .some), z)

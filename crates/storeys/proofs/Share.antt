@@ -3,13 +3,11 @@ use Prim.Native.Nat.{ℕ, _+_, _-_, _*_, _≤_, _<_}
 use native.Mathlib.Omega.{arith}
 use native.Mathlib.Decide.{decLe}
 use native.Mathlib.Nat.{mul-le-mul, mul-le-mul-left, mul-pos}
-use mathlib.Core.Bool.{Bool}
-use mathlib.Core.Path.{_≡_, refl, sym, _∙_}
+use mathlib.Core.Path.{_≡_, sym, _∙_}
 use lib.Dec.{leb, ltb}
 use borrow.Author.Tests.{le-leb, lt-leb, lt-ltb, le-ltb}
 use Rattle.records.specs.Notation.{pick}
 use Rattle.members.specs.declared.tables.Share.{Share}
-use Rattle.members.specs.declared.limits.Fraction.{Fraction}
 use Rattle.members.specs.Limits.{row, rowLimit, segment}
 use Rattle.members.specs.Tables.{publishedShare}
 use Rattle.members.proofs.Interpolation.{up-to, inside, past, alone}

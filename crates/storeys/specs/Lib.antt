@@ -4,3 +4,4 @@ pub mod Totals
 pub mod Tally
 pub mod Verdict
 pub mod Shears
+pub mod Cases

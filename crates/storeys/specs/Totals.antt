@@ -1,9 +1,9 @@
 -- A storey's finding from the totals of its members, added up one member after another (document 01, "Storey and building"): for a pass that judges each member
 -- once. Any numbers may be handed in. Numbers past what good records give are not added, so that no sum wraps; of good records the finding is `storeyFinding`.
-use Rattle.records.specs.Notation.{ℕ, _+_, _*_, Bool, false, _&&_, _||_, List, [], _∷_, leb, ltb, eqb, pick}
-use Rattle.records.specs.{declared.Storey.Storey, declared.Member.Member}
+use Rattle.records.specs.Notation.{ℕ, _+_, _*_, Bool, true, false, _&&_, _||_, List, [], _∷_, leb, ltb, eqb, pick}
+use Rattle.records.specs.{declared.Member.Member, declared.MemberCase.MemberCase, Records.inCase}
 use Rattle.members.specs.{declared.finding.Finding.Finding, declared.tables.Share.Share, Units.ratioCap, Tables.publishedShare, Finding.flag}
-use Rattle.storeys.specs.Storey.{wallShear, exceedsShare}
+use Rattle.storeys.specs.Storey.{wallShear, exceedsShare, shareOf}
 use Rattle.storeys.specs.declared.{StoreyFinding.StoreyFinding, row.Tally.Tally}
 
 -- the most members of a storey, the most that the field of a shear holds, and what no total of so many members passes
@@ -25,7 +25,7 @@ abbrev pub noTally : Tally
 noTally = record { members = 0; «axial_total» = 0; «over_shear» = 0; some = false; damage = 0 }
 
 -- the totals with one member more: whether it is over, and its n_D
-abbrev pub addedBy : Tally → Bool → ℕ → Member → Tally
+abbrev pub addedBy : Tally → Bool → ℕ → MemberCase → Tally
 addedBy t o nd m =
     record {
       members = t .members + 1;
@@ -42,47 +42,67 @@ takesOne t nd shear =
     && (leb (t .«axial_total») totalMost && (leb (t .«over_shear») totalMost && (leb (t .damage) totalMost && (leb nd ratioCap && leb shear shearMost))))
 
 -- the totals with the finding of a member; a 201st changes nothing
-unfoldable pub withFinding : Tally → Finding → Member → Tally
+unfoldable pub withFinding : Tally → Finding → MemberCase → Tally
 withFinding t f m = pick (takesOne t (f .nd .0) (m .case .shear)) (addedBy t (f .over) (f .nd .0) m) t
 
--- "A storey is Risky when P / W exceeds it; or Σ > 65,000 × c and some member is over; or" by its damage
-abbrev pub riskyBy : Share → ℕ → Tally → Bool
-riskyBy share w t =
-    exceedsShare share (t .«axial_total») (t .members) (t .«over_shear») w
-    || ((ltb (share .ends .r2 * t .members) (t .«axial_total») && t .some) || leb (7 * t .members) (t .damage))
+-- "Σ > 65,000 × c and some member is over"
+abbrev pub oneOver : Share → Tally → Bool
+oneOver share t = ltb (share .ends .r2 * t .members) (t .«axial_total») && t .some
 
 -- a number is past its most
 abbrev pub pastMost : ℕ → Tally → Bool
 pastMost w t = ltb membersMost (t .members) || (ltb totalMost (t .«over_shear») || ltb shearMost w)
 
--- Risky by the published share; and where a number is past its most
-unfoldable pub riskyIn : ℕ → Tally → Bool
-riskyIn w t = pastMost w t || riskyBy publishedShare w t
-
--- the storey's finding, from the totals of its members
-unfoldable pub foundBy : Storey → Bool → Tally → StoreyFinding
-foundBy s met t =
+-- the finding in a case with the storey shear w, from the totals of the members, by a share
+abbrev pub withinMost : Share → ℕ → Bool → Tally → StoreyFinding
+withinMost share w met t =
+    let byShare = exceedsShare share (t .«axial_total») (t .members) (t .«over_shear») w in
+    let byDamage = leb (7 * t .members) (t .damage) in
     record {
       «axial_total» = t .«axial_total»;
       members = t .members;
       «over_shear» = t .«over_shear»;
-      shear = s .shear;
-      risky = riskyIn (s .shear) t;
+      shear = w;
+      risky = byShare || (oneOver share t || byDamage);
       «walls_suffice» = met;
+      «by_share» = byShare;
+      «by_one_over» = oneOver share t;
+      «by_damage» = byDamage;
+      allowed = shareOf share (t .«axial_total») (t .members);
     }
 
+-- where a number is past its most: Risky, by none of the rules, and no share is allowed
+abbrev pub beyondMost : ℕ → Bool → Tally → StoreyFinding
+beyondMost w met t =
+    record {
+      «axial_total» = t .«axial_total»;
+      members = t .members;
+      «over_shear» = t .«over_shear»;
+      shear = w;
+      risky = true;
+      «walls_suffice» = met;
+      «by_share» = false;
+      «by_one_over» = false;
+      «by_damage» = false;
+      allowed = record { num = 0; den = 1 };
+    }
+
+-- by the published share
+unfoldable pub foundBy : ℕ → Bool → Tally → StoreyFinding
+foundBy w met t = pick (pastMost w t) (beyondMost w met t) (withinMost publishedShare w met t)
+
 -- the walls' V so far, with one member more; past its most nothing is added
-abbrev pub addedWall : ℕ → Member → ℕ
+abbrev pub addedWall : ℕ → MemberCase → ℕ
 addedWall t m = pick (leb t totalMost && leb (m .case .shear) shearMost) (t + wallShear m) t
 
--- the walls' V of some members, from t on
-unfoldable pub wallsFrom : ℕ → List Member → ℕ
-wallsFrom t [] = t
-wallsFrom t (m ∷ ms) = wallsFrom (addedWall t m) ms
+-- the walls' V of some members in case c, from t on
+unfoldable pub wallsFrom : ℕ → ℕ → List Member → ℕ
+wallsFrom t c [] = t
+wallsFrom t c (m ∷ ms) = wallsFrom (addedWall t (inCase c m)) c ms
 
 -- "walls' V total ≥ 0.40 × storey shear"; never of a shear past its most
 abbrev pub metBy : ℕ → ℕ → Bool
 metBy w walls = leb w shearMost && leb (2 * w) (5 * walls)
 
-unfoldable pub wallsSuffice : ℕ → List Member → Bool
-wallsSuffice w ms = metBy w (wallsFrom 0 ms)
+unfoldable pub wallsSuffice : ℕ → ℕ → List Member → Bool
+wallsSuffice c w ms = metBy w (wallsFrom 0 c ms)

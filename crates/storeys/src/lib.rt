@@ -5,7 +5,9 @@ pub mod row;
 pub mod storey;
 pub mod verdict;
 
-// What a storey is found to be.
+use members::limits::Fraction;
+
+// What a storey is found to be in one load case.
 pub struct StoreyFinding {
     // Σ, the total of n_D
     pub axial_total: u64,
@@ -18,11 +20,27 @@ pub struct StoreyFinding {
     pub risky: bool,
     // its walls carry at least 0.40 of the storey shear
     pub walls_suffice: bool,
+    // which rule makes it Risky: P / W above the allowed share; a member over while Σ is above the second end of the share; damage
+    pub by_share: bool,
+    pub by_one_over: bool,
+    pub by_damage: bool,
+    // the allowed share is the quotient of these two
+    pub allowed: Fraction,
 }
 
-// The finding, or the refusal by its number.
+// In each of four load cases; Risky where it is in some case.
+pub struct StoreyFindings {
+    pub risky: bool,
+    pub case1: StoreyFinding,
+    pub case2: StoreyFinding,
+    pub case3: StoreyFinding,
+    pub case4: StoreyFinding,
+}
+
+// The finding of a storey of the old form, the findings of one in four cases, or the refusal by its number.
 pub enum StoreyAnswer {
     Judged(StoreyFinding),
+    JudgedCases(StoreyFindings),
     Refused(u64),
 }
 

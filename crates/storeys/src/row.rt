@@ -1,27 +1,32 @@
 // One record, by value: what the loops over rows do with each. The totals are offered to whoever judges a storey's members in a loop of its own.
 ghost use mathlib.Core.List.{[], _∷_};
+ghost use mathlib.Core.Bool.{_||_};
 ghost use mathlib.Core.Path.{_≡_};
 ghost use Prim.Native.Nat.{_+_, _*_, _≤_};
 ghost use lib.Dec.{ltb};
+ghost use Rattle.records.specs.Records.{inCase};
 ghost use Rattle.members.specs.Limits.{row, interp};
 ghost use Rattle.members.specs.Sizes.{SizedShare};
-ghost use Rattle.storeys.specs.Storey.{allowedShare, exceedsShare};
-ghost use Rattle.storeys.specs.Totals.{totalMost, shearMost, weightOf, noTally, addedBy, takesOne, withFinding, riskyBy, riskyIn, foundBy, addedWall, metBy};
-ghost use Rattle.storeys.specs.Tally.{added, AddsUp, AddsNumbers, headFault};
+ghost use Rattle.storeys.specs.Storey.{allowedShare};
+ghost use Rattle.storeys.specs.Totals.{membersMost, totalMost, shearMost, weightOf, noTally, addedBy, takesOne, withFinding, oneOver, pastMost, withinMost, foundBy, addedWall, metBy};
+ghost use Rattle.storeys.specs.Tally.{withMember, casesBy, AddsUp, AddsNumbers, headFault};
 use crate::StoreyAnswer;
 use crate::StoreyFinding;
+use crate::StoreyFindings;
 use crate::StoreyJudgment;
 use members::class::is_wall;
+use members::finding::CaseAnswer;
 use members::finding::Finding;
-use members::finding::MemberAnswer;
-use members::finding::judge_member;
+use members::finding::judge_case;
 use members::finding::known;
 use members::limits::Fraction;
 use members::tables::Share;
 use members::units::Ratio;
 use records::Member;
+use records::MemberCase;
 use records::Storey;
 use records::numbers::in_case;
+use records::ranges::known_form;
 use records::ranges::storey_fault;
 
 // The most members of a storey.
@@ -47,18 +52,19 @@ pub struct Tally {
     pub damage: u64,
 }
 
-// The walls' V so far, with one member more. Past its most nothing is added.
-pub(crate) fn add_wall(t: u64, m: Member) -> u64
-    ensures { λ r. ⌜ r ≡ addedWall t m ⌝ }
+// The walls' V so far, with one member more in case c. Past its most nothing is added.
+pub(crate) fn add_wall(t: u64, m: Member, c: usize) -> u64
+    ensures { λ r. ⌜ r ≡ addedWall t (inCase c m) ⌝ }
 {
+    let one = in_case(m, c);
     if TOTAL_MOST < t {
         return t;
     }
-    if SHEAR_MOST < m.case.shear {
+    if SHEAR_MOST < one.case.shear {
         return t;
     }
-    if is_wall(in_case(m)) {
-        return t + m.case.shear;
+    if is_wall(one) {
+        return t + one.case.shear;
     }
     t
 }
@@ -94,14 +100,15 @@ fn weight(kind: u64) -> u64
     0
 }
 
-// The totals with one good member more.
-pub(crate) fn add_row(t: Tally, k: u64, met: bool, m: Member) -> Tally
-    requires { ⌜ AddsUp t k m ⌝ }
-    ensures { λ r. ⌜ r ≡ added t k met m ⌝ }
+// The totals with one good member more, in case c.
+pub(crate) fn add_row(t: Tally, k: u64, met: bool, m: Member, c: usize) -> Tally
+    requires { ⌜ AddsUp t k (inCase c m) ⌝ }
+    ensures { λ r. ⌜ r ≡ withMember t k met (inCase c m) ⌝ }
 {
-    match judge_member(k, met, m) {
-        MemberAnswer::Judged(f) => add_finding(t, f, m),
-        MemberAnswer::Refused(_) => t,
+    let one = in_case(m, c);
+    match judge_case(k, met, one) {
+        CaseAnswer::Judged(f) => add_finding(t, f, one),
+        CaseAnswer::Refused(_) => t,
     }
 }
 
@@ -128,7 +135,7 @@ fn takes_one(t: Tally, nd: u64, shear: u64) -> bool
 }
 
 // The totals with the finding of a member; a 201st changes nothing.
-pub fn add_finding(t: Tally, f: Finding, m: Member) -> Tally
+pub fn add_finding(t: Tally, f: Finding, m: MemberCase) -> Tally
     ensures { λ r. ⌜ r ≡ withFinding t f m ⌝ }
 {
     if takes_one(t, f.nd.0, m.case.shear) {
@@ -138,7 +145,7 @@ pub fn add_finding(t: Tally, f: Finding, m: Member) -> Tally
 }
 
 // The totals with a member's numbers: whether it is over, and its n_D.
-fn add_numbers(t: Tally, over: bool, nd: u64, m: Member) -> Tally
+fn add_numbers(t: Tally, over: bool, nd: u64, m: MemberCase) -> Tally
     requires { ⌜ AddsNumbers t nd m ⌝ }
     ensures { λ r. ⌜ r ≡ addedBy t over nd m ⌝ }
 {
@@ -161,9 +168,9 @@ fn add_numbers(t: Tally, over: bool, nd: u64, m: Member) -> Tally
     }
 }
 
-// The refusals of the call on a storey before its members': 1, k's 3, the storey's 3.
-pub(crate) fn head_fault(k: u64, s: Storey, rows: usize) -> u64
-    ensures { λ r. ⌜ r ≡ headFault k s rows ⌝ }
+// The refusals of the call on a storey before its members': 1, k's and the form's 3, the storey's 3.
+pub(crate) fn head_fault(k: u64, form: u64, s: Storey, rows: usize) -> u64
+    ensures { λ r. ⌜ r ≡ headFault k form s rows ⌝ }
 {
     if s.count != rows as u64 {
         return 1;
@@ -171,18 +178,21 @@ pub(crate) fn head_fault(k: u64, s: Storey, rows: usize) -> u64
     if !known(k) {
         return 3;
     }
-    storey_fault(s)
+    if !known_form(form) {
+        return 3;
+    }
+    storey_fault(form, s)
 }
 
 // The walls carry at least 0.40 of the storey shear; never of one past its most.
-pub(crate) fn meets(s: Storey, walls: u64) -> bool
+pub(crate) fn meets(shear: u64, walls: u64) -> bool
     requires { ⌜ walls ≤ totalMost + shearMost ⌝ }
-    ensures { λ r. ⌜ r ≡ metBy (s .shear) walls ⌝ }
+    ensures { λ r. ⌜ r ≡ metBy shear walls ⌝ }
 {
-    if SHEAR_MOST < s.shear {
+    if SHEAR_MOST < shear {
         return false;
     }
-    2 * s.shear <= 5 * walls
+    2 * shear <= 5 * walls
 }
 
 // The value at x: `first` up to the place `from`, `second` past the place `to`, linear between.
@@ -219,40 +229,88 @@ fn allowed_share(share: Share, axial_total: u64, c: u64) -> Fraction
     )
 }
 
-// P / W exceeds the allowed share, of c members.
-fn exceeds_share(share: Share, axial_total: u64, c: u64, over_shear: u64, shear: u64) -> bool
-    requires { ⌜ SizedShare share × (c ≤ 200) × («over_shear» ≤ 2_000_000_000) × (shear ≤ 9_999_999) ⌝ }
-    ensures { λ r. ⌜ r ≡ exceedsShare share «axial_total» c «over_shear» shear ⌝ }
+// P / W exceeds a share given in hundredths.
+fn exceeds(allowed: Fraction, over_shear: u64, shear: u64) -> bool
+    requires { ⌜ (allowed .num ≤ 8_000_000_000) × (allowed .den ≤ 40_000_000) × («over_shear» ≤ 2_000_000_000) × (shear ≤ 9_999_999) ⌝ }
+    ensures { λ r. ⌜ r ≡ ltb (shear * allowed .num) (100 * «over_shear» * allowed .den) ⌝ }
 {
-    let allowed = allowed_share(share, axial_total, c);
     shear * allowed.num < 100 * over_shear * allowed.den
 }
 
-// The axial ratios of c members are above the second end.
-fn past_second_end(share: Share, axial_total: u64, c: u64) -> bool
-    requires { ⌜ SizedShare share × (c ≤ 200) ⌝ }
-    ensures { λ r. ⌜ r ≡ ltb (share .ends .r2 * c) «axial_total» ⌝ }
+// The axial ratios of the members are above the second end, and some member is over.
+fn one_over(share: Share, t: Tally) -> bool
+    requires { ⌜ SizedShare share × (t .members ≤ membersMost) ⌝ }
+    ensures { λ r. ⌜ r ≡ oneOver share t ⌝ }
 {
-    share.ends.r2 * c < axial_total
+    if share.ends.r2 * t.members < t.axial_total {
+        return t.some;
+    }
+    false
 }
 
-// The storey's finding, from its totals.
-pub fn finding_of(s: Storey, met: bool, t: Tally) -> StoreyFinding
-    ensures { λ r. ⌜ r ≡ foundBy s met t ⌝ }
+// One of three.
+fn some_of(a: bool, b: bool, c: bool) -> bool
+    ensures { λ r. ⌜ r ≡ (a || (b || c)) ⌝ }
 {
+    if a {
+        return true;
+    }
+    if b {
+        return true;
+    }
+    c
+}
+
+// The storey's finding, from its totals, by a share.
+fn within_most(share: Share, shear: u64, met: bool, t: Tally) -> StoreyFinding
+    requires { ⌜ SizedShare share × (t .members ≤ membersMost) × (t .«over_shear» ≤ totalMost) × (shear ≤ shearMost) ⌝ }
+    ensures { λ r. ⌜ r ≡ withinMost share shear met t ⌝ }
+{
+    let allowed = allowed_share(share, t.axial_total, t.members);
+    let by_share = exceeds(allowed, t.over_shear, shear);
+    let by_one_over = one_over(share, t);
+    let by_damage = 7 * t.members <= t.damage;
     StoreyFinding {
         axial_total: t.axial_total,
         members: t.members,
         over_shear: t.over_shear,
-        shear: s.shear,
-        risky: risky_in(s.shear, t),
+        shear,
+        risky: some_of(by_share, by_one_over, by_damage),
         walls_suffice: met,
+        by_share,
+        by_one_over,
+        by_damage,
+        allowed: Fraction {
+            num: allowed.num,
+            den: 100 * allowed.den,
+        },
     }
 }
 
-// Risky by the published share; so is a storey whose numbers are past their most.
-fn risky_in(shear: u64, t: Tally) -> bool
-    ensures { λ r. ⌜ r ≡ riskyIn shear t ⌝ }
+// The storey's finding in a case with this storey shear, from the totals of its members, by the published share. Where a number is past its most, it is Risky by no rule.
+pub fn finding_of(shear: u64, met: bool, t: Tally) -> StoreyFinding
+    ensures { λ r. ⌜ r ≡ foundBy shear met t ⌝ }
+{
+    if past_most(shear, t) {
+        return StoreyFinding {
+            axial_total: t.axial_total,
+            members: t.members,
+            over_shear: t.over_shear,
+            shear,
+            risky: true,
+            walls_suffice: met,
+            by_share: false,
+            by_one_over: false,
+            by_damage: false,
+            allowed: Fraction { num: 0, den: 1 },
+        };
+    }
+    within_most(Share::published(), shear, met, t)
+}
+
+// A number is past its most.
+fn past_most(shear: u64, t: Tally) -> bool
+    ensures { λ r. ⌜ r ≡ pastMost shear t ⌝ }
 {
     if MEMBERS_MOST < t.members {
         return true;
@@ -260,24 +318,17 @@ fn risky_in(shear: u64, t: Tally) -> bool
     if TOTAL_MOST < t.over_shear {
         return true;
     }
-    if SHEAR_MOST < shear {
-        return true;
-    }
-    is_risky(Share::published(), shear, t)
+    SHEAR_MOST < shear
 }
 
-fn is_risky(share: Share, shear: u64, t: Tally) -> bool
-    requires { ⌜ SizedShare share × (t .members ≤ 200) × (t .«over_shear» ≤ 2_000_000_000) × (shear ≤ 9_999_999) ⌝ }
-    ensures { λ r. ⌜ r ≡ riskyBy share shear t ⌝ }
+// Risky in some case before, or in this one.
+pub(crate) fn risky_so_far(before: bool, f: StoreyFinding) -> bool
+    ensures { λ r. ⌜ r ≡ (before || f .risky) ⌝ }
 {
-    let c = t.members;
-    if exceeds_share(share, t.axial_total, c, t.over_shear, shear) {
+    if before {
         return true;
     }
-    if 7 * c <= t.damage {
-        return true;
-    }
-    past_second_end(share, t.axial_total, c) && t.some
+    f.risky
 }
 
 pub(crate) fn refused_storey(number: u64) -> StoreyJudgment
@@ -293,5 +344,26 @@ pub(crate) fn judged_storey(f: StoreyFinding) -> StoreyJudgment
 {
     StoreyJudgment {
         answer: StoreyAnswer::Judged(f),
+    }
+}
+
+// The four cases of a storey: Risky where it is in some case.
+pub(crate) fn judged_cases(
+    case1: StoreyFinding,
+    case2: StoreyFinding,
+    case3: StoreyFinding,
+    case4: StoreyFinding,
+) -> StoreyJudgment
+    ensures { λ r. ⌜ r .answer ≡ StoreyAnswer.JudgedCases (casesBy case1 case2 case3 case4) ⌝ }
+{
+    let risky = some_of(case1.risky, case2.risky, risky_so_far(case3.risky, case4));
+    StoreyJudgment {
+        answer: StoreyAnswer::JudgedCases(StoreyFindings {
+            risky,
+            case1,
+            case2,
+            case3,
+            case4,
+        }),
     }
 }

@@ -9,7 +9,7 @@ use lib.ListN.{length, getD, set, replicate, length-set, List·getD-eq-default}
 use lib.Seq.{getD-set-same, getD-set-other}
 use borrow.Author.Count.{below-more}
 use Rattle.records.specs.Records.{fields}
-use Rattle.records.specs.declared.Tag.the-variants.{M}
+use Rattle.records.specs.declared.Kind.the-variants.{M}
 use Rattle.words.specs.Words.{missing, handed}
 
 lt-or-le : (k j : ℕ) → (k < j) ⊎ (j ≤ k)
@@ -18,7 +18,7 @@ lt-or-le zero (suc j) = inl (omega arith)
 lt-or-le (suc k) (suc j) = ⊎-elim (λ (h : k < j). inl (omega arith)) (λ (h : j ≤ k). inr (omega arith)) (lt-or-le k j)
 
 -- an element that is there, whatever stands for one that is not
-any-default : (xs : List ℕ) (k d e : ℕ) → k < length xs → getD xs k d ≡ getD xs k e
+pub any-default : (xs : List ℕ) (k d e : ℕ) → k < length xs → getD xs k d ≡ getD xs k e
 any-default [] k d e h = absurd (not-suc-le-zero h)
 any-default (x ∷ xs) zero d e h = refl
 any-default (x ∷ xs) (suc k) d e h = any-default xs k d e (omega arith)

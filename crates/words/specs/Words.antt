@@ -1,7 +1,9 @@
 -- Records and answers as numbers, for other languages.
 use Prim.Native.Nat.{ℕ, _+_, _*_}
-use mathlib.Core.List.{List}
+use mathlib.Core.List.{List, [], _∷_}
 use lib.ListN.{getD}
+use Rattle.records.specs.declared.{Header.Header, Storey.Storey, Member.Member}
+use Rattle.records.specs.Records.{headerBy, storeyBy, caseBy, memberBy}
 use Rattle.members.specs.Finding.{Returned}
 
 -- "No field may be missing": where a record is handed in as numbers, one that is not given stands as a number outside every range
@@ -19,3 +21,15 @@ packing number line = number + 256 * line
 -- of an answer; 0 where accepted
 abbrev pub packed : Returned → ℕ
 packed r = packing (r .refusal) (r .line)
+
+-- records handed in as numbers: a header's are those of its line and its form; a storey's its number, its four shears and its count; a member's the first 18 fields
+-- of its line and eight for each of its four cases
+abbrev pub headerHanded : List ℕ → Header
+headerHanded values = headerBy (handed values 6) (handed values)
+
+abbrev pub storeyHanded : List ℕ → Storey
+storeyHanded values = storeyBy 2 (handed values)
+
+abbrev pub memberHanded : List ℕ → Member
+memberHanded values =
+    memberBy (handed values) (caseBy (handed values) 18 ∷ caseBy (handed values) 26 ∷ caseBy (handed values) 34 ∷ caseBy (handed values) 42 ∷ [])

@@ -1,32 +1,58 @@
-// Records handed in as numbers, in the order of their line, N_D and N_K counted from -20,000,000; a number that is not given is outside every range.
+// Records handed in as numbers, N_D and N_K counted from -20,000,000: a header's seven, a storey's six, a member's fifty. A number that is not given is outside every range.
 ghost use mathlib.Core.Path.{_≡_};
-ghost use Rattle.records.specs.Records.{headerBy, memberBy, storeyBy};
-ghost use Rattle.words.specs.Words.{handed};
+ghost use Prim.Native.Nat.{_≤_};
+ghost use Rattle.records.specs.Records.{caseBy};
+ghost use Rattle.words.specs.Words.{handed, headerHanded, storeyHanded, memberHanded};
+use crate::value_at;
 use crate::values_of;
+use records::FOUR_CASES;
 use records::Header;
+use records::LoadCase;
 use records::Member;
 use records::Storey;
 use records::numbers::header_of;
-use records::numbers::member_of;
+use records::numbers::member_with;
 use records::numbers::storey_of;
 
 pub fn header_given(values: &[u64]) -> Header
-    ensures { λ r. ⌜ r ≡ headerBy (handed (now (values .entry))) ⌝ }
+    ensures { λ r. ⌜ r ≡ headerHanded (now (values .entry)) ⌝ }
 {
     let vs = values_of(values);
-    header_of(vs)
+    let form = value_at(values, 6);
+    header_of(form, vs)
 }
 
 pub fn storey_given(values: &[u64]) -> Storey
-    ensures { λ r. ⌜ r ≡ storeyBy (handed (now (values .entry))) ⌝ }
+    ensures { λ r. ⌜ r ≡ storeyHanded (now (values .entry)) ⌝ }
 {
     let vs = values_of(values);
-    storey_of(vs)
+    storey_of(FOUR_CASES, vs)
+}
+
+// The eight numbers of a load case, from number j on.
+fn case_given(values: &[u64], j: usize) -> LoadCase
+    requires { ⌜ j ≤ 42 ⌝ }
+    ensures { λ r. ⌜ r ≡ caseBy (handed (now (values .entry))) j ⌝ }
+{
+    LoadCase {
+        nk: value_at(values, j),
+        me: value_at(values, j + 1),
+        mp: value_at(values, j + 2),
+        ve: value_at(values, j + 3),
+        vr: value_at(values, j + 4),
+        shear: value_at(values, j + 5),
+        rotation: value_at(values, j + 6),
+        drift: value_at(values, j + 7),
+    }
 }
 
 pub fn member_given(values: &[u64]) -> Member
-    ensures { λ r. ⌜ r ≡ memberBy (handed (now (values .entry))) ⌝ }
+    ensures { λ r. ⌜ r ≡ memberHanded (now (values .entry)) ⌝ }
 {
     let vs = values_of(values);
-    member_of(vs)
+    let case1 = case_given(values, 18);
+    let case2 = case_given(values, 26);
+    let case3 = case_given(values, 34);
+    let case4 = case_given(values, 42);
+    member_with(vs, [case1, case2, case3, case4])
 }

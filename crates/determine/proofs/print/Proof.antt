@@ -1,5 +1,5 @@
 use lib.ListN.{replicate}
-use Rattle.determination.specs.Determination.{printed}
+use Rattle.determination.specs.Determination.{sheetMost, printed}
 use mathlib.Core.Path.{sym}
 use lib.Seq.{length-take-le}
 use Rattle.columns.proofs.Stamps.{put-within}
@@ -14,10 +14,10 @@ determine-requires : tie.Need-determine-requires
 determine-requires c κs = search needs
 
 array-share-prefix-sheet : tie.Need-array-share-prefix-sheet
-array-share-prefix-sheet c = put-within (printed (c .before .before .before .before .args .input .now) 28286) (replicate 28286 0) _ _ (c .before .determine .ensures .0) (c .before .determine .ensures .1)
+array-share-prefix-sheet c = put-within (printed (c .before .before .before .before .args .input .now) sheetMost) (replicate sheetMost 0) _ _ (c .before .determine .ensures .0) (c .before .determine .ensures .1)
 
 slice-aggregate-write-all : tie.Need-slice-aggregate-write-all
-slice-aggregate-write-all c = sym (length-take-le _ _ (put-within (printed (c .before .before .before .before .before .args .input .now) 28286) (replicate 28286 0) _ _ (c .before .before .determine .ensures .0) (c .before .before .determine .ensures .1)))
+slice-aggregate-write-all c = sym (length-take-le _ _ (put-within (printed (c .before .before .before .before .before .args .input .now) sheetMost) (replicate sheetMost 0) _ _ (c .before .before .determine .ensures .0) (c .before .before .determine .ensures .1)))
 
 write-all-requires : tie.Need-write-all-requires
 write-all-requires c κs = search needs

@@ -2,7 +2,7 @@ use Prim.Native.Nat.{_-_}
 use native.Mathlib.Omega.{arith}
 use borrow.Author.Needs.{needs}
 use Rattle.records.specs.Records.{fields}
-use Rattle.records.specs.declared.Tag.the-variants.{M}
+use Rattle.records.specs.declared.Kind.the-variants.{M}
 use Rattle.words.proofs.Values.{Copied, copied-none, copied-next, copied-all, copied-short}
 use Rattle.words.proofs.values_of.Statement.{statement}
 use Rattle.words.proofs.values_of.Tie as tie

@@ -11,7 +11,7 @@ member-fault-requires : tie.Need-member-fault-requires
 member-fault-requires c κs = search needs
 
 returns : tie.Need-returns
-returns c = c .member-fault .ensures ∙ ap memberFault (c .before .member-given .ensures)
+returns c = c .member-fault .ensures ∙ ap (memberFault (c .before .before .before .args .form)) (c .before .member-given .ensures)
 
 pub llunareth-member-fault-spec : {M : Type 1} → statement M
 llunareth-member-fault-spec = tie.close (tie.spec member-given-requires member-fault-requires returns)

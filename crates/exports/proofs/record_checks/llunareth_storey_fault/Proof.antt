@@ -11,7 +11,7 @@ storey-fault-requires : tie.Need-storey-fault-requires
 storey-fault-requires c κs = search needs
 
 returns : tie.Need-returns
-returns c = c .storey-fault .ensures ∙ ap storeyFault (c .before .storey-given .ensures)
+returns c = c .storey-fault .ensures ∙ ap (storeyFault (c .before .before .before .args .form)) (c .before .storey-given .ensures)
 
 pub llunareth-storey-fault-spec : {M : Type 1} → statement M
 llunareth-storey-fault-spec = tie.close (tie.spec storey-given-requires storey-fault-requires returns)

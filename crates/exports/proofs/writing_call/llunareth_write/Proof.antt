@@ -22,8 +22,8 @@ use Rattle.records.specs.declared.Header.{Header}
 use Rattle.records.proofs.Structs.{header, member, storey}
 use Rattle.members.specs.Finding.{Returned}
 use Rattle.writing.specs.Writing.{fileReturned, fileAfter}
-use Rattle.records.specs.Records.{headerBy, surveyOf}
-use Rattle.words.specs.Words.{handed, packed}
+use Rattle.records.specs.Records.{surveyOf}
+use Rattle.words.specs.Words.{headerHanded, packed}
 use Rattle.exports.specs.Calls.{fileCount}
 use Rattle.exports.proofs.Room.{with-room, no-room, put, not-put}
 use Rattle.columns.specs.Line.{atFront}
@@ -117,7 +117,7 @@ body κs qs bs =
 
 answers : Answers Says.llunareth-write K 2 Code.function body
 answers κs qs a good pre bs =
-    let h : Header = headerBy (handed (a .0 .now)) in
+    let h : Header = headerHanded (a .0 .now) in
     let out : List ℕ = a .1 .1 .1 .1 .0 .now in
     let sheet : List ℕ = a .1 .1 .1 .0 .now in
     let found : Returned = fileReturned (surveyOf h (a .1 .0 .now) (a .1 .1 .0 .now)) (length sheet) in

@@ -27,26 +27,32 @@ rotation-limit-requires c κs = search needs
 m-dropped-requires : tie.Need-m-dropped-requires
 m-dropped-requires c κs = search needs
 
-exceeds-requires : tie.Need-exceeds-requires
-exceeds-requires c κs = search needs
+over-m-requires : tie.Need-over-m-requires
+over-m-requires c κs = search needs
+
+either-requires : tie.Need-either-requires
+either-requires c κs = search needs
 
 axial-requires : tie.Need-axial-requires
-axial-requires c κs = search needs
+axial-requires c κs =
+    let v = c .before .before .before .before .before .before .before .before .before .before .before .before .pre .3 in
+    (v .nd, v .fcm-least, v .fcm, v .area-least, v .area)
 
 returns : tie.Need-returns
 returns c =
-    let b = c .before .before .before .before .before .before .before .before .before .before in
+    let b = c .before .before .before .before .before .before .before .before .before .before .before .before .before in
     let a = b .args in
     let r = a .m .case .rotation in
     assembled (a .s) (a .k) (a .met) (a .m)
-    (c .before .before .before .before .before .before .before .before .class-of .ensures)
-    (c .before .before .before .before .before .before .before .ratios .ensures)
-    (c .before .before .before .before .before .before .moment-ratio .ensures)
-    (c .before .before .before .before .steps .ensures ∙ below-cap r 1 (omega arith) (omega (arith, b .pre .3 .rotation)) ∙ whole r)
-    (c .before .before .before .before .before .m-limit .ensures)
-    (c .before .before .before .rotation-limit .ensures)
-    (c .before .before .m-dropped .ensures)
-    (c .before .exceeds .ensures)
+    (c .before .before .before .before .before .before .before .before .before .before .before .class-of .ensures)
+    (c .before .before .before .before .before .before .before .before .before .before .ratios .ensures)
+    (c .before .before .before .before .before .before .before .before .before .moment-ratio .ensures)
+    (c .before .before .before .before .before .before .before .steps .ensures ∙ below-cap r 1 (omega arith) (omega (arith, b .pre .3 .rotation)) ∙ whole r)
+    (c .before .before .before .before .before .before .before .before .m-limit .ensures)
+    (c .before .before .before .before .before .before .rotation-limit .ensures)
+    (c .before .before .before .before .before .m-dropped .ensures)
+    (c .before .before .before .before .over-m .ensures)
+    (c .before .either .ensures)
     (c .axial .ensures)
 
 pub judge-spec : {M : Type 1} → statement M
@@ -60,6 +66,7 @@ judge-spec =
     steps-requires
     rotation-limit-requires
     m-dropped-requires
-    exceeds-requires
+    over-m-requires
+    either-requires
     axial-requires
     returns)

@@ -1,12 +1,19 @@
-use mathlib.Core.Bool.{true, false}
-use mathlib.Core.Path.{_≡_, _∙_, sym}
-use borrow.Author.Tests.{not-true, not-false, lt-leb, le-leb}
-use Rattle.records.specs.Notation.{everyBelow}
-use Rattle.records.specs.declared.Tag.the-variants.{B, M}
-use Rattle.records.specs.Records.{inRange, headerValues, headerFault}
+use mathlib.Core.Bool.{Bool, true, false, _&&_}
+use mathlib.Core.Path.{_≡_, refl, _∙_, sym}
+use lib.Dec.{leb}
 use borrow.Author.Needs.{needs}
+use borrow.Author.Tests.{not-true, not-false, lt-leb, le-leb}
+use Rattle.records.specs.Notation.{pick, everyBelow}
+use Rattle.records.specs.declared.Header.{Header}
+use Rattle.records.specs.declared.Kind.the-variants.{B}
+use Rattle.records.specs.Records.{lineInRange, headerValues, knownForm, headerFault}
 use Rattle.records.proofs.ranges.header_fault.Statement.{statement}
 use Rattle.records.proofs.ranges.header_fault.Tie as tie
+
+-- the refusal, by its four tests
+tested : (h : Header) (a b c d : Bool) → lineInRange B (headerValues h) ≡ a → knownForm (h .form) ≡ b → leb (h .height) 30_000 ≡ c → leb (h .storeys) 10 ≡ d → pick (a && b) (pick (c && d) 0 7) 3 ≡ headerFault h
+unfolding headerFault
+tested h a b c d p q r s = rw (p, q, r, s)
 
 array-write-vs : tie.Need-array-write-vs
 array-write-vs c = search needs
@@ -30,20 +37,50 @@ in-ranges-requires : tie.Need-in-ranges-requires
 in-ranges-requires c κs = search needs
 
 returns : tie.Need-returns
-unfolding headerFault everyBelow
-returns c = let e : everyBelow (inRange B (headerValues (c .before .before .args .h))) 6 ≡ false = sym (c .before .in-ranges .ensures) ∙ not-true _ (c .if1 .taken) in simp e
+unfolding everyBelow
+returns c = tested (c .before .before .args .h) false _ _ _ (sym (c .before .in-ranges .ensures) ∙ not-true _ (c .if1 .taken)) refl refl refl
+
+known-form-requires : tie.Need-known-form-requires
+known-form-requires c κs = search needs
 
 returns-2 : tie.Need-returns-2
-unfolding headerFault everyBelow
-returns-2 c = let e : everyBelow (inRange B (headerValues (c .before .before .before .before .args .h))) 6 ≡ true = sym (c .before .before .before .in-ranges .ensures) ∙ not-false _ (c .before .before .if1 .left) in simp (e, lt-leb _ _ (c .if2 .taken))
+unfolding everyBelow
+returns-2 c =
+    let k = c .before in
+    tested (k .before .before .before .args .h) true false _ _ (sym (k .before .before .in-ranges .ensures) ∙ not-false _ (k .before .if1 .left)) (sym (k .known-form .ensures) ∙ not-true _ (c .if2 .taken)) refl refl
 
 returns-3 : tie.Need-returns-3
-unfolding headerFault everyBelow
-returns-3 c = let e : everyBelow (inRange B (headerValues (c .before .before .before .before .before .before .args .h))) 6 ≡ true = sym (c .before .before .before .before .before .in-ranges .ensures) ∙ not-false _ (c .before .before .before .before .if1 .left) in simp (e, le-leb _ _ (c .before .before .if2 .left), lt-leb _ _ (c .if3 .taken))
+unfolding everyBelow
+returns-3 c =
+    let k = c .before .before .before in
+    tested (k .before .before .before .args .h) true true false _ (sym (k .before .before .in-ranges .ensures) ∙ not-false _ (k .before .if1 .left)) (sym (k .known-form .ensures) ∙ not-false _ (c .before .before .if2 .left)) (lt-leb _ _ (c .if3 .taken)) refl
 
 returns-4 : tie.Need-returns-4
-unfolding headerFault everyBelow
-returns-4 c = let e : everyBelow (inRange B (headerValues (c .before .before .before .before .before .before .args .h))) 6 ≡ true = sym (c .before .before .before .before .before .in-ranges .ensures) ∙ not-false _ (c .before .before .before .before .if1 .left) in simp (e, le-leb _ _ (c .before .before .if2 .left), le-leb _ _ (c .if3 .left))
+unfolding everyBelow
+returns-4 c =
+    let k = c .before .before .before .before .before in
+    tested (k .before .before .before .args .h) true true true false (sym (k .before .before .in-ranges .ensures) ∙ not-false _ (k .before .if1 .left)) (sym (k .known-form .ensures) ∙ not-false _ (c .before .before .before .before .if2 .left)) (le-leb _ _ (c .before .before .if3 .left)) (lt-leb _ _ (c .if4 .taken))
+
+returns-5 : tie.Need-returns-5
+unfolding everyBelow
+returns-5 c =
+    let k = c .before .before .before .before .before in
+    tested (k .before .before .before .args .h) true true true true (sym (k .before .before .in-ranges .ensures) ∙ not-false _ (k .before .if1 .left)) (sym (k .known-form .ensures) ∙ not-false _ (c .before .before .before .before .if2 .left)) (le-leb _ _ (c .before .before .if3 .left)) (le-leb _ _ (c .if4 .left))
 
 pub header-fault-spec : {M : Type 1} → statement M
-header-fault-spec = tie.close (tie.spec array-write-vs array-write-vs-2 array-write-vs-3 array-write-vs-4 array-write-vs-5 array-write-vs-6 in-ranges-requires returns returns-2 returns-3 returns-4)
+header-fault-spec =
+    tie.close
+    (tie.spec
+    array-write-vs
+    array-write-vs-2
+    array-write-vs-3
+    array-write-vs-4
+    array-write-vs-5
+    array-write-vs-6
+    in-ranges-requires
+    returns
+    known-form-requires
+    returns-2
+    returns-3
+    returns-4
+    returns-5)

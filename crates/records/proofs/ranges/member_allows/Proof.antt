@@ -1,4 +1,5 @@
-use Rattle.records.specs.Records.{memberRanges}
+use Rattle.records.specs.Records.{ranges}
+use Rattle.records.specs.declared.Kind.the-variants.{M}
 use mathlib.Core.Path.{_∙_}
 use Rattle.records.proofs.Allowing.{past, in-member-tables}
 use borrow.Author.Needs.{needs}
@@ -9,7 +10,7 @@ between-requires : tie.Need-between-requires
 between-requires c κs = search needs
 
 returns : tie.Need-returns
-returns c = c .between .ensures ∙ past memberRanges (c .before .before .args .j) (c .before .before .args .v) (c .before .if1 .taken)
+returns c = c .between .ensures ∙ past (ranges M 0) (c .before .before .args .j) (c .before .before .args .v) (c .before .if1 .taken)
 
 mul-between : tie.Need-mul-between
 mul-between c = search needs

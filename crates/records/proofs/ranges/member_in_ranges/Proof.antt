@@ -7,20 +7,20 @@ use borrow.Author.Needs.{needs}
 use borrow.Author.Tests.{not-true, not-false}
 use Rattle.records.specs.Notation.{everyBelow}
 use Rattle.records.specs.Records.{fields, inRange}
-use Rattle.records.specs.declared.Tag.the-variants.{M}
+use Rattle.records.specs.declared.Kind.the-variants.{M}
 use Rattle.records.proofs.Allowing.{in-member-tables}
 use Rattle.records.proofs.Below.{every-none, every-more, every-fails}
 use Rattle.records.proofs.ranges.member_in_ranges.Statement.{statement}
 use Rattle.records.proofs.ranges.member_in_ranges.Tie as tie
 
 abbrev Inv-loop : tie.InvT-loop
-Inv-loop vs least most j₀ j = (j ≤ fields M) × (everyBelow (inRange M vs) j ≡ true)
+Inv-loop n vs least most j₀ j = (n ≤ fields M) × (j ≤ n) × (everyBelow (inRange M vs) j ≡ true)
 
 abbrev μ-loop : tie.MeasureT-loop
-μ-loop vs least most j₀ j = fields M - j
+μ-loop n vs least most j₀ j = n - j
 
 loop-holds : tie.Need-loop-holds Inv-loop μ-loop
-loop-holds c = (omega arith, every-none _)
+loop-holds c = (c .pre, omega arith, every-none _)
 
 mul-between : tie.Need-mul-between Inv-loop μ-loop
 mul-between c = search needs
@@ -47,7 +47,7 @@ returns : tie.Need-returns Inv-loop μ-loop
 returns c =
     let l = c .before .before .before .loop in
     let a = c .before .before .before .before .args in
-    sym (every-fails (inRange M (a .t1)) (fields M) (l .j) (omega arith) (sym (in-member-tables (l .j) (getD (a .t1) (l .j) 0) (omega arith)) ∙ sym (c .before .between .ensures) ∙ not-true _ (c .if1 .taken)))
+    sym (every-fails (inRange M (a .t1)) (a .n) (l .j) (omega arith) (sym (in-member-tables (l .j) (getD (a .t1) (l .j) 0) (omega arith)) ∙ sym (c .before .between .ensures) ∙ not-true _ (c .if1 .taken)))
 
 add-j : tie.Need-add-j Inv-loop μ-loop
 add-j c = search needs
@@ -59,10 +59,10 @@ loop-again : tie.Need-loop-again Inv-loop μ-loop
 loop-again c =
     let l = c .before .before .before .loop in
     let a = c .before .before .before .before .args in
-    (omega arith, every-more (inRange M (a .t1)) (l .j) (l .inv .1) (sym (in-member-tables (l .j) (getD (a .t1) (l .j) 0) (omega arith)) ∙ sym (c .before .between .ensures) ∙ not-false _ (c .if1 .left)))
+    (l .inv .0, omega arith, every-more (inRange M (a .t1)) (l .j) (l .inv .2) (sym (in-member-tables (l .j) (getD (a .t1) (l .j) 0) (omega arith)) ∙ sym (c .before .between .ensures) ∙ not-false _ (c .if1 .left)))
 
 returns-2 : tie.Need-returns-2 Inv-loop μ-loop
-returns-2 c = let l = c .before .loop in let e : l .j ≡ fields M = omega arith in sym (rw e at (l .inv .1))
+returns-2 c = let l = c .before .loop in let e : l .j ≡ c .before .before .args .n = omega arith in sym (rw e at (l .inv .2))
 
 pub member-in-ranges-spec : {M : Type 1} → statement M
 member-in-ranges-spec =

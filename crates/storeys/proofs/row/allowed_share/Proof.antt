@@ -2,7 +2,6 @@ use Prim.Native.Nat.{_*_, _≤_}
 use native.Mathlib.Omega.{arith}
 use Rattle.storeys.specs.Storey.{allowedShare}
 use Rattle.storeys.proofs.Share.{end-most}
-use borrow.Author.Needs.{needs}
 use Rattle.storeys.proofs.row.allowed_share.Statement.{statement}
 use Rattle.storeys.proofs.row.allowed_share.Tie as tie
 

@@ -8,11 +8,8 @@ use Rattle.words.proofs.answers.put_member.Tie as tie
 enum-known-a : tie.Need-enum-known-a
 enum-known-a c = search needs
 
-code-requires : tie.Need-code-requires
-code-requires c κs = search needs
-
-flag-requires : tie.Need-flag-requires
-flag-requires c κs = search needs
+finding-words-requires : tie.Need-finding-words-requires
+finding-words-requires c κs = search needs
 
 slice-aggregate-put-words : tie.Need-slice-aggregate-put-words
 slice-aggregate-put-words c = search needs
@@ -23,25 +20,44 @@ put-words-requires c κs = search needs
 enum-known-a-2 : tie.Need-enum-known-a-2
 enum-known-a-2 c = search needs
 
+put-findings-requires : tie.Need-put-findings-requires
+put-findings-requires c κs = search needs
+
+enum-known-a-3 : tie.Need-enum-known-a-3
+enum-known-a-3 c = search needs
+
 same-length : tie.Need-same-length
 same-length c = search needs
 
 returns : tie.Need-returns
-returns c = (simp (c .before .before .before .before .before .before .before .before .a .given .1), c .before .before .put-words .ensures ∙ rw (c .before .before .before .before .before .flag .ensures, c .before .before .before .before .before .before .code .ensures) (simp (c .before .before .before .before .before .before .before .before .a .given .1)))
+returns c =
+    let e = c .before .before .before .before .before .before .before .a .given .1 in
+    (simp e, c .before .before .put-words .ensures ∙ rw (c .before .before .before .before .before .finding-words .ensures) (simp e))
+
+same-length-2 : tie.Need-same-length-2
+same-length-2 c = search needs
 
 returns-2 : tie.Need-returns-2
-returns-2 c = record-refused (returned (c .before .before .before .before .args .a)) (c .before .before .before .before .args .out .now) (c .before .a2 .given .0 .0) (simp (c .before .a2 .given .1))
+returns-2 c =
+    let e = c .before .before .before .before .before .a2 .given .1 in
+    (simp e, c .before .before .put-findings .ensures ∙ simp e)
+
+returns-3 : tie.Need-returns-3
+returns-3 c = record-refused (returned (c .before .before .before .before .args .a)) (c .before .before .before .before .args .out .now) (c .before .a3 .given .0 .0) (simp (c .before .a3 .given .1))
 
 pub put-member-spec : {M : Type 1} → statement M
 put-member-spec =
     tie.close
     (tie.spec
     enum-known-a
-    code-requires
-    flag-requires
+    finding-words-requires
     slice-aggregate-put-words
     put-words-requires
     enum-known-a-2
+    put-findings-requires
+    enum-known-a-3
     same-length
     returns
-    returns-2)
+    same-length-2
+    returns-2
+    returns-3)

@@ -8,40 +8,48 @@ use Rattle.words.proofs.answers.put_storey.Tie as tie
 enum-known-a : tie.Need-enum-known-a
 enum-known-a c = search needs
 
-flag-requires : tie.Need-flag-requires
-flag-requires c κs = search needs
-
-flag-requires-2 : tie.Need-flag-requires-2
-flag-requires-2 c κs = search needs
-
-slice-aggregate-put-words : tie.Need-slice-aggregate-put-words
-slice-aggregate-put-words c = search needs
-
-put-words-requires : tie.Need-put-words-requires
-put-words-requires c κs = search needs
+put-storey-finding-requires : tie.Need-put-storey-finding-requires
+put-storey-finding-requires c κs = search needs
 
 enum-known-a-2 : tie.Need-enum-known-a-2
 enum-known-a-2 c = search needs
+
+put-storey-findings-requires : tie.Need-put-storey-findings-requires
+put-storey-findings-requires c κs = search needs
+
+enum-known-a-3 : tie.Need-enum-known-a-3
+enum-known-a-3 c = search needs
 
 same-length : tie.Need-same-length
 same-length c = search needs
 
 returns : tie.Need-returns
-returns c = (simp (c .before .before .before .before .before .before .before .before .a .given .1), c .before .before .put-words .ensures ∙ rw (c .before .before .before .before .before .flag2 .ensures, c .before .before .before .before .before .before .flag .ensures) (simp (c .before .before .before .before .before .before .before .before .a .given .1)))
+returns c =
+    let e = c .before .before .before .before .before .a .given .1 in
+    (simp e, c .before .before .put-storey-finding .ensures ∙ simp e)
+
+same-length-2 : tie.Need-same-length-2
+same-length-2 c = search needs
 
 returns-2 : tie.Need-returns-2
-returns-2 c = record-refused (returnedStorey (c .before .before .before .before .args .r .answer)) (c .before .before .before .before .args .out .now) (c .before .a2 .given .0 .0) (simp (c .before .a2 .given .1))
+returns-2 c =
+    let e = c .before .before .before .before .before .a2 .given .1 in
+    (simp e, c .before .before .put-storey-findings .ensures ∙ simp e)
+
+returns-3 : tie.Need-returns-3
+returns-3 c = record-refused (returnedStorey (c .before .before .before .before .args .r .answer)) (c .before .before .before .before .args .out .now) (c .before .a3 .given .0 .0) (simp (c .before .a3 .given .1))
 
 pub put-storey-spec : {M : Type 1} → statement M
 put-storey-spec =
     tie.close
     (tie.spec
     enum-known-a
-    flag-requires
-    flag-requires-2
-    slice-aggregate-put-words
-    put-words-requires
+    put-storey-finding-requires
     enum-known-a-2
+    put-storey-findings-requires
+    enum-known-a-3
     same-length
     returns
-    returns-2)
+    same-length-2
+    returns-2
+    returns-3)

@@ -11,11 +11,17 @@ use Rattle.words.proofs.given.header_given.Tie as tie
 values-of-requires : tie.Need-values-of-requires
 values-of-requires c κs = search needs
 
+value-at-requires : tie.Need-value-at-requires
+value-at-requires c κs = search needs
+
 header-of-requires : tie.Need-header-of-requires
 header-of-requires c κs = search needs
 
 returns : tie.Need-returns
-returns c = c .header-of .ensures ∙ header-same (λ (j : ℕ). getD (c .before .values-of .result) j 0) (handed (c .before .before .before .args .values .now)) (λ j h. c .before .values-of .ensures j (omega arith))
+returns c =
+    let values = handed (c .before .before .before .before .args .values .now) in
+    c .header-of .ensures
+    ∙ rw (c .before .value-at .ensures) (header-same (values 6) (λ (j : ℕ). getD (c .before .before .values-of .result) j 0) values (λ j h. c .before .before .values-of .ensures j (omega arith)))
 
 pub header-given-spec : {M : Type 1} → statement M
-header-given-spec = tie.close (tie.spec values-of-requires header-of-requires returns)
+header-given-spec = tie.close (tie.spec values-of-requires value-at-requires header-of-requires returns)

@@ -15,7 +15,7 @@ storey-of-requires : tie.Need-storey-of-requires
 storey-of-requires c κs = search needs
 
 returns : tie.Need-returns
-returns c = c .storey-of .ensures ∙ storey-same (λ (j : ℕ). getD (c .before .values-of .result) j 0) (handed (c .before .before .before .args .values .now)) (λ j h. c .before .values-of .ensures j (omega arith))
+returns c = c .storey-of .ensures ∙ storey-same 2 (λ (j : ℕ). getD (c .before .values-of .result) j 0) (handed (c .before .before .before .args .values .now)) (λ j h. c .before .values-of .ensures j (omega arith))
 
 pub storey-given-spec : {M : Type 1} → statement M
 storey-given-spec = tie.close (tie.spec values-of-requires storey-of-requires returns)
