@@ -17,7 +17,7 @@ use borrow.Fn.Args.{vAt}
 use borrow.Fn.World.{World}
 use borrow.Table.Row.{Cx, sPtr, sBool}
 use borrow.Table.Rows.{sc-here}
-use Rattle.walk.proofs.Walk.{S, _⨾_, _▸_, _◂_, told, _then_, at, from, set, op2, lit, cp, fld, sc, gone, old, forget, falls, test, when, while, exits, ret, same, u64}
+use Rattle.walk.proofs.Walk.{S, _⨾_, _▸_, told, _then_, at, from, set, op2, lit, cp, fld, sc, gone, old, forget, falls, test, when, while, exits, ret, same, u64}
 use Rattle.walk.proofs.Slice.{R, kept, full, here, sh-ptr, sh-len, val-at, sh-at, sh-spares, sh-reads, copy-val, elem-out}
 use Rattle.walk.proofs.Fn.{Callee, Knows, Body, Answers, entry, callee, knows, call, meets}
 use Rattle.records.proofs.Structs.{member, member-bytes}
@@ -97,28 +97,28 @@ body κs qs bs =
     ret tt))
 
 answers : Answers Says.members-fault K 0 Code.function body
-answers κs qs a good pre bs =
-    (0, refl, (omega arith, clear-none (a .0) (a .1 .0 .now))) ◂ λ vs inv. (
-      tt,
-      (
-        λ taken. told (ltb-true vs (length (a .1 .0 .now)) taken) λ l. (
-          search needs,
+answers κs qs a good pre bs = (
+  (0, refl, (omega arith, clear-none (a .0) (a .1 .0 .now))),
+  λ vs inv. (
+    tt,
+    (
+      λ taken. told (ltb-true vs (length (a .1 .0 .now)) taken) λ l. (
+        search needs,
+        (
+          tt,
           (
-            tt,
-            (
-              (refl, refl, omega arith),
-              λ _. (
-                λ _. tt,
-                λ n. (
-                  λ _. omega arith,
-                  λ x. (
-                    λ _. tt,
-                    λ f. (
-                      tt,
-                      (
-                        λ hit. ((tt, (refl, tt)), refused-here (a .0) (a .1 .0 .now) vs (n .1) (x .1) (f .1) (inv .1) (n .5) (x .5) (f .5) l (eqb-false (f .1) 0 (not-true _ hit))),
-                        λ miss. (search needs, (length (a .1 .0 .now) - (vs + 1), omega arith, (vs + 1, refl, (omega arith, clear-next (a .0) (a .1 .0 .now) vs (n .1) (x .1) (f .1) (inv .1) (n .5) (x .5) (f .5) (eqb-true (f .1) 0 (not-false _ miss))), refl))),
-                      ),
+            (refl, refl, omega arith),
+            λ _. (
+              λ _. tt,
+              λ n. (
+                λ _. omega arith,
+                λ x. (
+                  λ _. tt,
+                  λ f. (
+                    tt,
+                    (
+                      λ hit. ((tt, (refl, tt)), refused-here (a .0) (a .1 .0 .now) vs (n .1) (x .1) (f .1) (inv .1) (n .5) (x .5) (f .5) l (eqb-false (f .1) 0 (not-true _ hit))),
+                      λ miss. (search needs, (length (a .1 .0 .now) - (vs + 1), omega arith, (vs + 1, refl, (omega arith, clear-next (a .0) (a .1 .0 .now) vs (n .1) (x .1) (f .1) (inv .1) (n .5) (x .5) (f .5) (eqb-true (f .1) 0 (not-false _ miss))), refl))),
                     ),
                   ),
                 ),
@@ -126,9 +126,11 @@ answers κs qs a good pre bs =
             ),
           ),
         ),
-        λ left. ((tt, (refl, tt)), clear-all (a .0) (a .1 .0 .now) vs (inv .1) (inv .0) (ltb-false vs (length (a .1 .0 .now)) left)),
       ),
-    )
+      λ left. ((tt, (refl, tt)), clear-all (a .0) (a .1 .0 .now) vs (inv .1) (inv .0) (ltb-false vs (length (a .1 .0 .now)) left)),
+    ),
+  ),
+)
 
 pub members-fault-spec : {M : Type 1} → statement M
 unfolding Code.routine tablesOf

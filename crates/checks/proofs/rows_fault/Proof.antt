@@ -20,7 +20,7 @@ use borrow.Fn.World.{World}
 use borrow.Rule.Slice.Relend.{asShr, ssptr}
 use borrow.Table.Row.{Cx, sPtr, sBool}
 use borrow.Table.Rows.{sc-here}
-use Rattle.walk.proofs.Walk.{S, _⨾_, _▸_, _◂_, told, _then_, at, from, set, op2, lit, cp, fld, sc, gone, old, forget, falls, test, when, while, exits, ret, same, u64}
+use Rattle.walk.proofs.Walk.{S, _⨾_, _▸_, told, _then_, at, from, set, op2, lit, cp, fld, sc, gone, old, forget, falls, test, when, while, exits, ret, same, u64}
 use Rattle.walk.proofs.Slice.{R, kept, full, here, sh-ptr, sh-len, val-at, sh-at, sh-spares, sh-reads, sh-room, copy-val, elem-out, part, slice}
 use Rattle.walk.proofs.Fn.{Callee, Knows, Body, Answers, entry, callee, knows, call, meets}
 use Rattle.records.proofs.Structs.{member, storey, member-bytes, storey-bytes}
@@ -139,61 +139,61 @@ body κs qs bs =
     ret tt))
 
 answers : Answers Says.rows-fault K 0 Code.function body
-answers κs qs a good pre bs =
-    ((0, 0), refl, (omega arith, none-before (a .1 .0 .now), rows-none (a .0) (a .1 .0 .now) (a .1 .1 .0 .now))) ◂ λ vs inv. (
-      tt,
-      (
-        λ taken. told (ltb-true (vs .1) (length (a .1 .0 .now)) taken) λ l. (
-          search needs,
+answers κs qs a good pre bs = (
+  ((0, 0), refl, (omega arith, none-before (a .1 .0 .now), rows-none (a .0) (a .1 .0 .now) (a .1 .1 .0 .now))),
+  λ vs inv. (
+    tt,
+    (
+      λ taken. told (ltb-true (vs .1) (length (a .1 .0 .now)) taken) λ l. (
+        search needs,
+        (
+          tt,
           (
-            tt,
-            (
-              (refl, refl, l),
-              λ _. (
-                λ _. tt,
-                λ x. (
-                  λ _. inv .0,
-                  λ r. (
-                    λ _. tt,
-                    λ o. (
-                      tt,
-                      (
-                        λ ne. ((tt, (refl, (refl, tt))), own-refused (a .0) (a .1 .0 .now) (a .1 .1 .0 .now) (vs .1) (o .1) (x .1) (r .1) _ (inv .2) l refl (x .5) (r .5) (o .5) (eqb-false (o .1) 0 (not-true (eqb (o .1) 0) ne))),
-                        λ no. told (eqb-true (o .1) 0 (not-false (eqb (o .1) 0) no)) λ z. (
-                          λ _. tt,
-                          λ c. told (next-within (a .1 .0 .now) (a .1 .1 .0 .now) (vs .1) (vs .0) (c .1) (inv .1) (c .5) (pre)) λ w. (
+            (refl, refl, l),
+            λ _. (
+              λ _. tt,
+              λ x. (
+                λ _. inv .0,
+                λ r. (
+                  λ _. tt,
+                  λ o. (
+                    tt,
+                    (
+                      λ ne. ((tt, (refl, (refl, tt))), own-refused (a .0) (a .1 .0 .now) (a .1 .1 .0 .now) (vs .1) (o .1) (x .1) (r .1) _ (inv .2) l refl (x .5) (r .5) (o .5) (eqb-false (o .1) 0 (not-true (eqb (o .1) 0) ne))),
+                      λ no. told (eqb-true (o .1) 0 (not-false (eqb (o .1) 0) no)) λ z. (
+                        λ _. tt,
+                        λ c. told (next-within (a .1 .0 .now) (a .1 .1 .0 .now) (vs .1) (vs .0) (c .1) (inv .1) (c .5) (pre)) λ w. (
+                          search needs,
+                          (
                             search needs,
                             (
-                              search needs,
+                              tt,
                               (
-                                tt,
+                                search needs,
                                 (
-                                  search needs,
-                                  (
-                                    (refl, refl, omega arith, w),
-                                    λ p. (
-                                      ap (vint w64) (p .1),
-                                      (
-                                        λ _. tt,
-                                        λ f. (
-                                          tt,
-                                          (
-                                            λ ne. ((tt, (refl, (refl, tt))), members-refused (a .0) (a .1 .0 .now) (a .1 .1 .0 .now) (vs .1) (o .1) (x .1) (r .1) _ (inv .2) l refl (x .5) (r .5) (o .5) z (vs .0) (c .1) (f .1) (inv .1) (c .5) (f .5) (eqb-false (f .1) 0 (not-true (eqb (f .1) 0) ne))),
-                                            λ no. (
-                                              search needs,
+                                  (refl, refl, omega arith, w),
+                                  λ p. (
+                                    ap (vint w64) (p .1),
+                                    (
+                                      λ _. tt,
+                                      λ f. (
+                                        tt,
+                                        (
+                                          λ ne. ((tt, (refl, (refl, tt))), members-refused (a .0) (a .1 .0 .now) (a .1 .1 .0 .now) (vs .1) (o .1) (x .1) (r .1) _ (inv .2) l refl (x .5) (r .5) (o .5) z (vs .0) (c .1) (f .1) (inv .1) (c .5) (f .5) (eqb-false (f .1) 0 (not-true (eqb (f .1) 0) ne))),
+                                          λ no. (
+                                            search needs,
+                                            (
+                                              length (a .1 .0 .now) - (vs .1 + 1),
+                                              omega arith,
                                               (
-                                                length (a .1 .0 .now) - (vs .1 + 1),
-                                                omega arith,
+                                                (vs .0 + c .1, vs .1 + 1),
+                                                refl,
                                                 (
-                                                  (vs .0 + c .1, vs .1 + 1),
-                                                  refl,
-                                                  (
-                                                    omega arith,
-                                                    next-before (a .1 .0 .now) (a .1 .1 .0 .now) (vs .1) (vs .0) (c .1) (inv .1) (c .5),
-                                                    rows-next (a .0) (a .1 .0 .now) (a .1 .1 .0 .now) (vs .1) (o .1) (x .1) (r .1) _ (inv .2) l refl (x .5) (r .5) (o .5) z (vs .0) (c .1) (f .1) (inv .1) (c .5) (f .5) (eqb-true (f .1) 0 (not-false (eqb (f .1) 0) no)),
-                                                  ),
-                                                  refl,
+                                                  omega arith,
+                                                  next-before (a .1 .0 .now) (a .1 .1 .0 .now) (vs .1) (vs .0) (c .1) (inv .1) (c .5),
+                                                  rows-next (a .0) (a .1 .0 .now) (a .1 .1 .0 .now) (vs .1) (o .1) (x .1) (r .1) _ (inv .2) l refl (x .5) (r .5) (o .5) z (vs .0) (c .1) (f .1) (inv .1) (c .5) (f .5) (eqb-true (f .1) 0 (not-false (eqb (f .1) 0) no)),
                                                 ),
+                                                refl,
                                               ),
                                             ),
                                           ),
@@ -214,10 +214,12 @@ answers κs qs a good pre bs =
             ),
           ),
         ),
-        λ left. told (ltb-false (vs .1) (length (a .1 .0 .now)) left) λ l.
-            ((tt, (refl, (refl, tt))), rows-all (a .0) (a .1 .0 .now) (a .1 .1 .0 .now) (vs .1) (inv .2) (inv .0) l),
       ),
-    )
+      λ left. told (ltb-false (vs .1) (length (a .1 .0 .now)) left) λ l.
+          ((tt, (refl, (refl, tt))), rows-all (a .0) (a .1 .0 .now) (a .1 .1 .0 .now) (vs .1) (inv .2) (inv .0) l),
+    ),
+  ),
+)
 
 pub rows-fault-spec : {M : Type 1} → statement M
 unfolding Code.routine tablesOf

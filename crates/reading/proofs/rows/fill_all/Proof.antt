@@ -16,7 +16,7 @@ use borrow.Rule.Slice.Mut.{setVals, mslice}
 use borrow.Rule.Slice.Relend.{mslice-owed, asMut}
 use borrow.Table.Row.{Cx, lease, off, alive, sBool, sUnit}
 use borrow.Table.Rows.{sc-here}
-use Rattle.walk.proofs.Walk.{S, fld, _⨾_, _▸_, _◂_, told, _then_, at, slot, from, set, op2, lit, unit, cp, sc, gone, old, forget, falls, test, while, exits, ret, same, u64}
+use Rattle.walk.proofs.Walk.{S, fld, _⨾_, _▸_, told, _then_, at, slot, from, set, op2, lit, unit, cp, sc, gone, old, forget, falls, test, while, exits, ret, same, u64}
 use Rattle.walk.proofs.Slice.{R, full, here, val-at, sh-at, sh-spares, sh-reads, mut-at, mut-is, mut-reads, slice, lend-on, back-on, owed-len}
 use Rattle.walk.proofs.Array.{begin, end, over}
 use Rattle.walk.proofs.Fn.{Callee, Knows, Body, Answers, entry, callee, knows, call, meets}
@@ -98,51 +98,53 @@ body κs qs bs =
     ret tt))
 
 answers : Answers Says.fill-all K 1 Code.function body
-answers κs qs a good pre bs =
-    ((a .1 .0 .now, 0, 0), refl, (omega arith, before-none _ _, refl, filled-none _ _ _)) ◂ λ vs inv. (
-      tt,
-      (
-        λ taken. told (ltb-true (vs .2) (a .1 .1 .1 .0) taken) λ l. (
-          λ _. storey-lies (a .1 .1 .0) (a .0 .now) (a .1 .1 .1 .0) (pre .0) (vs .2) (vs .1) l (inv .1),
-          λ g. (
-            λ _. tt,
-            λ k.
-                λ γ. (
-                  refl,
-                  (
-                    λ _. members-lie (a .1 .1 .0) (a .0 .now) (a .1 .1 .1 .0) (pre .0) (vs .2) (vs .1) l (inv .1) (g .1) (k .1) (g .5) (k .5) (length (vs .0)) (omega arith),
-                    λ h. (
-                      refl,
-                      λ back. told (next-small (a .1 .1 .0) (a .0 .now) (a .1 .1 .1 .0) (pre .0) (vs .2) (vs .1) l (inv .1) (g .1) (k .1) (g .5) (k .5)) λ p. (
+answers κs qs a good pre bs = (
+  ((a .1 .0 .now, 0, 0), refl, (omega arith, before-none _ _, refl, filled-none _ _ _)),
+  λ vs inv. (
+    tt,
+    (
+      λ taken. told (ltb-true (vs .2) (a .1 .1 .1 .0) taken) λ l. (
+        λ _. storey-lies (a .1 .1 .0) (a .0 .now) (a .1 .1 .1 .0) (pre .0) (vs .2) (vs .1) l (inv .1),
+        λ g. (
+          λ _. tt,
+          λ k.
+              λ γ. (
+                refl,
+                (
+                  λ _. members-lie (a .1 .1 .0) (a .0 .now) (a .1 .1 .1 .0) (pre .0) (vs .2) (vs .1) l (inv .1) (g .1) (k .1) (g .5) (k .5) (length (vs .0)) (omega arith),
+                  λ h. (
+                    refl,
+                    λ back. told (next-small (a .1 .1 .0) (a .0 .now) (a .1 .1 .1 .0) (pre .0) (vs .2) (vs .1) l (inv .1) (g .1) (k .1) (g .5) (k .5)) λ p. (
+                      search needs,
+                      (
                         search needs,
                         (
-                          search needs,
+                          a .1 .1 .1 .0 - (vs .2 + 1),
+                          omega arith,
                           (
-                            a .1 .1 .1 .0 - (vs .2 + 1),
-                            omega arith,
+                            (_, vs .1 + k .1, vs .2 + 1),
+                            refl,
                             (
-                              (_, vs .1 + k .1, vs .2 + 1),
-                              refl,
-                              (
-                                omega arith,
-                                before-next (a .1 .1 .0) (a .0 .now) (a .1 .1 .1 .0) (pre .0) (vs .2) (vs .1) l (inv .1) (g .1) (k .1) (g .5) (k .5),
-                                back ∙ inv .2,
-                                filled-next (a .1 .1 .0) (a .0 .now) (a .1 .1 .1 .0) (pre .0) (vs .2) (vs .1) l (inv .1) (g .1) (k .1) (g .5) (k .5) _ _ _ (inv .3) (h .5),
-                              ),
-                              refl,
+                              omega arith,
+                              before-next (a .1 .1 .0) (a .0 .now) (a .1 .1 .1 .0) (pre .0) (vs .2) (vs .1) l (inv .1) (g .1) (k .1) (g .5) (k .5),
+                              back ∙ inv .2,
+                              filled-next (a .1 .1 .0) (a .0 .now) (a .1 .1 .1 .0) (pre .0) (vs .2) (vs .1) l (inv .1) (g .1) (k .1) (g .5) (k .5) _ _ _ (inv .3) (h .5),
                             ),
+                            refl,
                           ),
                         ),
                       ),
                     ),
                   ),
                 ),
-          ),
+              ),
         ),
-        λ left. told (ltb-false (vs .2) (a .1 .1 .1 .0) left) λ l.
-            ((refl, (fix-len (a .1 .0 .ptr) (a .1 .0 .name) (vs .0) (a .1 .0 .now) (inv .2), (tt, (tt, tt)))), filled-all _ _ _ _ _ _ (inv .3) (inv .0) l),
       ),
-    )
+      λ left. told (ltb-false (vs .2) (a .1 .1 .1 .0) left) λ l.
+          ((refl, (fix-len (a .1 .0 .ptr) (a .1 .0 .name) (vs .0) (a .1 .0 .now) (inv .2), (tt, (tt, tt)))), filled-all _ _ _ _ _ _ (inv .3) (inv .0) l),
+    ),
+  ),
+)
 
 pub fill-all-spec : {M : Type 1} → statement M
 unfolding Code.routine tablesOf

@@ -14,7 +14,7 @@ use borrow.Fn.World.{World}
 use borrow.Rule.Slice.Mut.{setVals}
 use borrow.Table.Row.{Cx, sPtr, sBool, sUnit}
 use borrow.Table.Rows.{sc-here}
-use Rattle.walk.proofs.Walk.{S, _⨾_, _▸_, _◂_, told, _then_, at, from, set, op2, lit, unit, cp, fld, sc, gone, old, forget, falls, test, while, exits, ret, same, u64}
+use Rattle.walk.proofs.Walk.{S, _⨾_, _▸_, told, _then_, at, from, set, op2, lit, unit, cp, fld, sc, gone, old, forget, falls, test, while, exits, ret, same, u64}
 use Rattle.walk.proofs.Slice.{R, kept, full, here, mut-ptr, sh-at, sh-spares, sh-reads, elem-in}
 use Rattle.walk.proofs.Fn.{Callee, Knows, Body, Answers, entry, call, meets}
 use Rattle.records.proofs.Structs.{member, member-bytes}
@@ -80,33 +80,33 @@ body κs qs bs =
     ret tt))
 
 answers : Answers Says.fill-members K 0 Code.function body
-answers κs qs a good pre bs =
-    ((a .1 .0 .now, 0), refl, (omega arith, refl, placed-none _ _ _)) ◂ λ vs inv. (
-      tt,
-      (
-        λ taken. told (ltb-true (vs .1) (a .1 .1 .1 .1 .1 .0) taken) λ l. (
+answers κs qs a good pre bs = (
+  ((a .1 .0 .now, 0), refl, (omega arith, refl, placed-none _ _ _)),
+  λ vs inv. (
+    tt,
+    (
+      λ taken. told (ltb-true (vs .1) (a .1 .1 .1 .1 .1 .0) taken) λ l. (
+        search needs,
+        (
           search needs,
           (
-            search needs,
-            (
-              λ _. (omega arith, omega arith, member-within (a .1 .1 .0) (a .1 .1 .1 .0 + 1) (a .1 .1 .1 .1 .0) (a .1 .1 .1 .1 .1 .0) (vs .1) (length (a .0 .now)) l (pre .2)),
-              λ g. (
-                search needs,
+            λ _. (omega arith, omega arith, member-within (a .1 .1 .0) (a .1 .1 .1 .0 + 1) (a .1 .1 .1 .1 .0) (a .1 .1 .1 .1 .1 .0) (vs .1) (length (a .0 .now)) l (pre .2)),
+            λ g. (
+              search needs,
+              (
+                tt,
                 (
-                  tt,
+                  (refl, refl, omega arith),
                   (
-                    (refl, refl, omega arith),
+                    search needs,
                     (
-                      search needs,
+                      a .1 .1 .1 .1 .1 .0 - (vs .1 + 1),
+                      omega arith,
                       (
-                        a .1 .1 .1 .1 .1 .0 - (vs .1 + 1),
-                        omega arith,
-                        (
-                          (setL (vs .0) (a .1 .1 .1 .1 .0 + vs .1) (g .1), vs .1 + 1),
-                          refl,
-                          (omega arith, length-set (vs .0) (a .1 .1 .1 .1 .0 + vs .1) (g .1) ∙ inv .1, placed-step _ _ _ (vs .1) _ _ _ (inv .2) (g .5) refl),
-                          refl,
-                        ),
+                        (setL (vs .0) (a .1 .1 .1 .1 .0 + vs .1) (g .1), vs .1 + 1),
+                        refl,
+                        (omega arith, length-set (vs .0) (a .1 .1 .1 .1 .0 + vs .1) (g .1) ∙ inv .1, placed-step _ _ _ (vs .1) _ _ _ (inv .2) (g .5) refl),
+                        refl,
                       ),
                     ),
                   ),
@@ -115,10 +115,12 @@ answers κs qs a good pre bs =
             ),
           ),
         ),
-        λ left. told (ltb-false (vs .1) (a .1 .1 .1 .1 .1 .0) left) λ l.
-            ((refl, (fix-len (a .1 .0 .ptr) (a .1 .0 .name) (vs .0) (a .1 .0 .now) (inv .1), (tt, (tt, (tt, (tt, tt)))))), placed-all _ _ _ (vs .1) _ _ (inv .2) (inv .0) l),
       ),
-    )
+      λ left. told (ltb-false (vs .1) (a .1 .1 .1 .1 .1 .0) left) λ l.
+          ((refl, (fix-len (a .1 .0 .ptr) (a .1 .0 .name) (vs .0) (a .1 .0 .now) (inv .1), (tt, (tt, (tt, (tt, tt)))))), placed-all _ _ _ (vs .1) _ _ (inv .2) (inv .0) l),
+    ),
+  ),
+)
 
 pub fill-members-spec : {M : Type 1} → statement M
 unfolding Code.routine tablesOf

@@ -14,7 +14,7 @@ use borrow.Fn.World.{World}
 use borrow.Rule.Slice.Mut.{setVals}
 use borrow.Table.Row.{Cx, sPtr, sBool, sUnit}
 use borrow.Table.Rows.{sc-here}
-use Rattle.walk.proofs.Walk.{S, _⨾_, _▸_, _◂_, told, at, from, set, op2, lit, unit, cp, fld, sc, gone, old, forget, falls, test, while, exits, ret, same, u64}
+use Rattle.walk.proofs.Walk.{S, _⨾_, _▸_, told, at, from, set, op2, lit, unit, cp, fld, sc, gone, old, forget, falls, test, while, exits, ret, same, u64}
 use Rattle.walk.proofs.Slice.{R, kept, full, here, mut-ptr, val-at, sh-at, sh-spares, sh-reads, elem-in}
 use Rattle.walk.proofs.Fn.{Callee, Knows, Body, Answers, entry, call, meets}
 use Rattle.records.proofs.Structs.{storey, storey-bytes}
@@ -86,38 +86,38 @@ body κs qs bs =
     ret tt))
 
 answers : Answers Says.fill-storeys K 0 Code.function body
-answers κs qs a good pre bs =
-    ((a .1 .0 .now, 0, 0), refl, (omega arith, before-none _ _, refl, placed-none _ _ _)) ◂ λ vs inv. (
-      tt,
-      (
-        λ taken. told (ltb-true (vs .2) (a .1 .1 .1 .0) taken) λ l. (
-          λ _. storey-lies (a .1 .1 .0) (a .0 .now) (a .1 .1 .1 .0) (pre .0) (vs .2) (vs .1) l (inv .1),
-          λ g. (
-            search needs,
+answers κs qs a good pre bs = (
+  ((a .1 .0 .now, 0, 0), refl, (omega arith, before-none _ _, refl, placed-none _ _ _)),
+  λ vs inv. (
+    tt,
+    (
+      λ taken. told (ltb-true (vs .2) (a .1 .1 .1 .0) taken) λ l. (
+        λ _. storey-lies (a .1 .1 .0) (a .0 .now) (a .1 .1 .1 .0) (pre .0) (vs .2) (vs .1) l (inv .1),
+        λ g. (
+          search needs,
+          (
+            tt,
             (
-              tt,
+              (refl, refl, omega arith),
               (
-                (refl, refl, omega arith),
-                (
-                  λ _. tt,
-                  λ k. told (next-small (a .1 .1 .0) (a .0 .now) (a .1 .1 .1 .0) (pre .0) (vs .2) (vs .1) l (inv .1) (g .1) (k .1) (g .5) (k .5)) λ p. (
+                λ _. tt,
+                λ k. told (next-small (a .1 .1 .0) (a .0 .now) (a .1 .1 .1 .0) (pre .0) (vs .2) (vs .1) l (inv .1) (g .1) (k .1) (g .5) (k .5)) λ p. (
+                  search needs,
+                  (
                     search needs,
                     (
-                      search needs,
+                      a .1 .1 .1 .0 - (vs .2 + 1),
+                      omega arith,
                       (
-                        a .1 .1 .1 .0 - (vs .2 + 1),
-                        omega arith,
+                        (setL (vs .0) (vs .2) (g .1), vs .1 + k .1, vs .2 + 1),
+                        refl,
                         (
-                          (setL (vs .0) (vs .2) (g .1), vs .1 + k .1, vs .2 + 1),
-                          refl,
-                          (
-                            omega arith,
-                            before-next (a .1 .1 .0) (a .0 .now) (a .1 .1 .1 .0) (pre .0) (vs .2) (vs .1) l (inv .1) (g .1) (k .1) (g .5) (k .5),
-                            length-set (vs .0) (vs .2) (g .1) ∙ inv .2,
-                            placed-step _ _ _ (vs .2) _ _ _ (inv .3) (storey-is (a .1 .1 .0) (a .0 .now) (a .1 .1 .1 .0) (pre .0) (vs .2) (vs .1) l (inv .1) (g .1) (k .1) (g .5) (k .5)) (omega arith),
-                          ),
-                          refl,
+                          omega arith,
+                          before-next (a .1 .1 .0) (a .0 .now) (a .1 .1 .1 .0) (pre .0) (vs .2) (vs .1) l (inv .1) (g .1) (k .1) (g .5) (k .5),
+                          length-set (vs .0) (vs .2) (g .1) ∙ inv .2,
+                          placed-step _ _ _ (vs .2) _ _ _ (inv .3) (storey-is (a .1 .1 .0) (a .0 .now) (a .1 .1 .1 .0) (pre .0) (vs .2) (vs .1) l (inv .1) (g .1) (k .1) (g .5) (k .5)) (omega arith),
                         ),
+                        refl,
                       ),
                     ),
                   ),
@@ -126,10 +126,12 @@ answers κs qs a good pre bs =
             ),
           ),
         ),
-        λ left. told (ltb-false (vs .2) (a .1 .1 .1 .0) left) λ l.
-            ((refl, (fix-len (a .1 .0 .ptr) (a .1 .0 .name) (vs .0) (a .1 .0 .now) (inv .2), (tt, (tt, tt)))), placed-all _ _ _ (vs .2) _ _ (inv .3) (inv .0) l),
       ),
-    )
+      λ left. told (ltb-false (vs .2) (a .1 .1 .1 .0) left) λ l.
+          ((refl, (fix-len (a .1 .0 .ptr) (a .1 .0 .name) (vs .0) (a .1 .0 .now) (inv .2), (tt, (tt, tt)))), placed-all _ _ _ (vs .2) _ _ (inv .3) (inv .0) l),
+    ),
+  ),
+)
 
 pub fill-storeys-spec : {M : Type 1} → statement M
 unfolding Code.routine tablesOf

@@ -13,7 +13,7 @@ use borrow.Rule.Slice.Mut.{msleft}
 use borrow.Rule.Slice.Relend.{asMut, msptr, mslice-owed}
 use borrow.Table.Row.{Cx, lease, off, alive, dead, sBool}
 use borrow.Table.Rows.{sc-here}
-use Rattle.walk.proofs.Walk.{S, _⨾_, _▸_, _◂_, told, at, slot, from, fld, sc, gone, old, forget, ret, same, u64}
+use Rattle.walk.proofs.Walk.{S, _⨾_, _▸_, told, at, slot, from, fld, sc, gone, old, forget, ret, same, u64}
 use Rattle.walk.proofs.Slice.{R, kept, full, here, val-at, sh-at, sh-spares, sh-reads, mut-at, mut-is, mut-reads, slice, lend-on, back-on, owed-len}
 use Rattle.walk.proofs.Array.{begin, end, over}
 use Rattle.walk.proofs.Fn.{Callee, Knows, Body, Answers, entry, callee, knows, call, meets}
@@ -109,12 +109,34 @@ answers κs qs a good pre bs =
     let k = a .1 .1 .1 .0 in
     let c = a .1 .1 .1 .1 .0 in
     let s = a .1 .1 .1 .1 .1 .0 in
-    let rows = a .1 .1 .1 .1 .1 .1 .0 .now in
-    (λ _. tt) ◂ λ h. (λ _. tt) ◂ λ w. told (w .5 ∙ ap (λ x. wallsSuffice c x rows) (h .5)) λ walls.
-    λ γ. refl ◂ (λ _. (storey-level k form s rows (pre .0), storey-rows k form s rows (pre .0), pre .1, omega (arith, pre .2))) ◂ λ g. refl ◂ λ back.
-    λ γ. refl ◂ (λ _. (pre .1, omega (arith, g .5 .0, back, pre .2))) ◂ λ z. refl ◂ λ last.
-    (fix-len (a .0 .ptr) (a .0 .name) (z .2 .0) (a .0 .now) (last ∙ back), (tt, (tt, (tt, (tt, (tt, (refl, tt))))))) ◂
-    (omega (arith, z .5 .0, g .5 .0), (case-risky k form s rows (pre .0) c (pre .1) (w .1) (g .1 .tally) walls (g .5 .1 .0) (z .1 .risky) (p .risky) (z .5 .1 .0), case-done k form s rows (pre .0) c (pre .1) (w .1) (g .1 .tally) walls (g .5 .1 .0) (a .0 .now) (g .2 .0) (z .2 .0) (p .at) (g .1 .at) (g .5 .1 .1) (g .5 .0) (z .5 .1 .1)))
+    let rows = a .1 .1 .1 .1 .1 .1 .0 .now in (
+      λ _. tt,
+      λ h. (
+        λ _. tt,
+        λ w. told (w .5 ∙ ap (λ x. wallsSuffice c x rows) (h .5)) λ walls.
+            λ γ. (
+              refl,
+              (
+                λ _. (storey-level k form s rows (pre .0), storey-rows k form s rows (pre .0), pre .1, omega (arith, pre .2)),
+                λ g. (
+                  refl,
+                  λ back.
+                      λ γ. (
+                        refl,
+                        (
+                          λ _. (pre .1, omega (arith, g .5 .0, back, pre .2)),
+                          λ z. (
+                            refl,
+                            λ last.
+                                ((fix-len (a .0 .ptr) (a .0 .name) (z .2 .0) (a .0 .now) (last ∙ back), (tt, (tt, (tt, (tt, (tt, (refl, tt))))))), (omega (arith, z .5 .0, g .5 .0), (case-risky k form s rows (pre .0) c (pre .1) (w .1) (g .1 .tally) walls (g .5 .1 .0) (z .1 .risky) (p .risky) (z .5 .1 .0), case-done k form s rows (pre .0) c (pre .1) (w .1) (g .1 .tally) walls (g .5 .1 .0) (a .0 .now) (g .2 .0) (z .2 .0) (p .at) (g .1 .at) (g .5 .1 .1) (g .5 .0) (z .5 .1 .1)))),
+                          ),
+                        ),
+                      ),
+                ),
+              ),
+            ),
+      ),
+    )
 
 pub put-case-lines-spec : {M : Type 1} → statement M
 unfolding Code.routine tablesOf

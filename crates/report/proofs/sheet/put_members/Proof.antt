@@ -16,7 +16,7 @@ use borrow.Rule.Slice.Mut.{setVals, mslice}
 use borrow.Rule.Slice.Relend.{asMut, mslice-owed}
 use borrow.Table.Row.{Cx, lease, off, alive, dead, sPtr, sBool}
 use borrow.Table.Rows.{sc-here, any-gone}
-use Rattle.walk.proofs.Walk.{S, _⨾_, _▸_, _◂_, told, at, slot, from, set, op2, lit, cp, fld, sc, gone, old, forget, falls, test, while, exits, ret, same, u64}
+use Rattle.walk.proofs.Walk.{S, _⨾_, _▸_, told, at, slot, from, set, op2, lit, cp, fld, sc, gone, old, forget, falls, test, while, exits, ret, same, u64}
 use Rattle.walk.proofs.Slice.{ty, R, kept, full, here, sh-ptr, sh-len, val-at, mut-at, mut-is, mut-reads, copy-val, elem-out, slice, lend-on, back-on, owed-len}
 use Rattle.walk.proofs.Array.{begin, end, over}
 use Rattle.walk.proofs.Fn.{Callee, Knows, Body, Answers, entry, call, meets}
@@ -107,16 +107,35 @@ answers κs qs a good pre bs =
     let met = a .1 .1 .1 .1 .0 in
     let c = a .1 .1 .1 .1 .1 .0 in
     let rows = a .1 .1 .1 .1 .1 .1 .0 .now in
-    let before = a .0 .now in
-    (λ _. tt) ◂ λ b. ((before, b .1, 0), refl, turn-none form k met c rows before (p .at) (b .1) (b .5)) ◂ λ vs inv. told (ap (λ (r : PrintedMembers). r .at) (b .5)) λ first. tt ◂
-    (λ taken. told (ltb-true (vs .2) (length rows) taken) λ l.
-    told (turn-fits form k met c rows (b .1 .at) before (vs .0) (vs .1) (vs .2) inv l (rw first (pre .3))) λ fits.
-    λ γ. refl ◂ search needs ◂ tt ◂ (refl, refl, l) ◂ λ _.
-    (λ _. (tally-room k met c rows form (pre .2) (pre .1) (vs .1 .tally) (vs .2) (inv .totals) l (pre .0), pre .2, fits)) ◂ λ g. refl ◂ λ back. search needs ◂
-    (length rows - (vs .2 + 1), omega arith, ((g .2 .0, g .1, vs .2 + 1), refl, turn-next form k met c rows (b .1 .at) before (vs .0) (vs .1) (vs .2) inv (g .2 .0) (g .1) (pre .2) (pre .1) l (g .5 .0) (g .5 .1 .0) (g .5 .1 .1) back, refl))) ◂
-    λ left. told (ltb-false (vs .2) (length rows) left) λ l.
-    (fix-len (a .0 .ptr) (a .0 .name) (vs .0) before (inv .size), (tt, (tt, (tt, (tt, (tt, (refl, tt))))))) ◂
-    (end-place form k met c rows (b .1 .at) before (vs .0) (vs .1) (vs .2) inv l (p .at) first, (end-totals form k met c rows (b .1 .at) before (vs .0) (vs .1) (vs .2) inv l (p .at) first, end-lines form k met c rows (b .1 .at) before (vs .0) (vs .1) (vs .2) inv l (p .at) first))
+    let before = a .0 .now in (
+      λ _. tt,
+      λ b. (
+        ((before, b .1, 0), refl, turn-none form k met c rows before (p .at) (b .1) (b .5)),
+        λ vs inv. told (ap (λ (r : PrintedMembers). r .at) (b .5)) λ first. (
+          tt,
+          (
+            λ taken. told (ltb-true (vs .2) (length rows) taken) λ l.
+                told (turn-fits form k met c rows (b .1 .at) before (vs .0) (vs .1) (vs .2) inv l (rw first (pre .3))) λ fits.
+                λ γ. (
+                  refl,
+                  (
+                    search needs,
+                    (
+                      tt,
+                      (
+                        (refl, refl, l),
+                        λ _.
+                            (λ _. (tally-room k met c rows form (pre .2) (pre .1) (vs .1 .tally) (vs .2) (inv .totals) l (pre .0), pre .2, fits), λ g. (refl, λ back. (search needs, (length rows - (vs .2 + 1), omega arith, ((g .2 .0, g .1, vs .2 + 1), refl, turn-next form k met c rows (b .1 .at) before (vs .0) (vs .1) (vs .2) inv (g .2 .0) (g .1) (pre .2) (pre .1) l (g .5 .0) (g .5 .1 .0) (g .5 .1 .1) back, refl))))),
+                      ),
+                    ),
+                  ),
+                ),
+            λ left. told (ltb-false (vs .2) (length rows) left) λ l.
+                ((fix-len (a .0 .ptr) (a .0 .name) (vs .0) before (inv .size), (tt, (tt, (tt, (tt, (tt, (refl, tt))))))), (end-place form k met c rows (b .1 .at) before (vs .0) (vs .1) (vs .2) inv l (p .at) first, (end-totals form k met c rows (b .1 .at) before (vs .0) (vs .1) (vs .2) inv l (p .at) first, end-lines form k met c rows (b .1 .at) before (vs .0) (vs .1) (vs .2) inv l (p .at) first))),
+          ),
+        ),
+      ),
+    )
 
 pub put-members-spec : {M : Type 1} → statement M
 unfolding Code.routine tablesOf

@@ -16,7 +16,7 @@ use borrow.Rule.Slice.Mut.{setVals, mslice}
 use borrow.Rule.Slice.Relend.{asMut, mslice-owed}
 use borrow.Table.Row.{Cx, lease, off, alive, dead, sBool}
 use borrow.Table.Rows.{sc-here}
-use Rattle.walk.proofs.Walk.{S, _⨾_, _▸_, _◂_, told, at, slot, from, set, op2, lit, cp, fld, sc, gone, old, forget, falls, test, while, exits, ret, same, u64}
+use Rattle.walk.proofs.Walk.{S, _⨾_, _▸_, told, at, slot, from, set, op2, lit, cp, fld, sc, gone, old, forget, falls, test, while, exits, ret, same, u64}
 use Rattle.walk.proofs.Slice.{R, kept, full, here, val-at, sh-at, sh-spares, sh-reads, mut-at, mut-is, mut-reads, copy-val, slice, lend-on, back-on, owed-len}
 use Rattle.walk.proofs.Array.{begin, end, over}
 use Rattle.walk.proofs.Fn.{Callee, Knows, Body, Answers, entry, callee, knows, call, meets}
@@ -100,15 +100,22 @@ answers κs qs a good pre bs =
     let k = a .1 .1 .1 .0 in
     let s = a .1 .1 .1 .1 .0 in
     let rows = a .1 .1 .1 .1 .1 .0 .now in
-    let before = a .0 .now in
-    (λ _. tt) ◂ λ b. ((before, p, 0), refl, cased-none form k s rows (b .1) p before) ◂ λ vs inv. tt ◂
-    (λ taken. told (ltb-true (vs .2) (b .1) taken) λ l.
-    told (case-fits form k s rows (b .1) p before (vs .0) (vs .1) (vs .2) inv l (rw (b .5) (pre .1))) λ fits.
-    λ γ. refl ◂ (λ _. (pre .0, rw (← b .5) l, fits)) ◂ λ g. refl ◂ λ back. search needs ◂
-    (b .1 - (vs .2 + 1), omega arith, ((g .2 .0, g .1, vs .2 + 1), refl, cased-next form k s rows (b .1) p before (vs .0) (vs .1) (vs .2) inv l (g .2 .0) (g .1) (g .5 .0) (g .5 .1 .0) (g .5 .1 .1) back, refl))) ◂
-    λ left. told (ltb-false (vs .2) (b .1) left) λ l.
-    (fix-len (a .0 .ptr) (a .0 .name) (vs .0) before (inv .size), (tt, (tt, (tt, (tt, (refl, tt)))))) ◂
-    (cases-place form k s rows (b .1) p before (vs .0) (vs .1) (vs .2) inv l (b .5), (cases-risky form k s rows (b .1) p before (vs .0) (vs .1) (vs .2) inv l (b .5), cases-lines form k s rows (b .1) p before (vs .0) (vs .1) (vs .2) inv l (b .5)))
+    let before = a .0 .now in (
+      λ _. tt,
+      λ b. (
+        ((before, p, 0), refl, cased-none form k s rows (b .1) p before),
+        λ vs inv. (
+          tt,
+          (
+            λ taken. told (ltb-true (vs .2) (b .1) taken) λ l.
+                told (case-fits form k s rows (b .1) p before (vs .0) (vs .1) (vs .2) inv l (rw (b .5) (pre .1))) λ fits.
+                λ γ. (refl, (λ _. (pre .0, rw (← b .5) l, fits), λ g. (refl, λ back. (search needs, (b .1 - (vs .2 + 1), omega arith, ((g .2 .0, g .1, vs .2 + 1), refl, cased-next form k s rows (b .1) p before (vs .0) (vs .1) (vs .2) inv l (g .2 .0) (g .1) (g .5 .0) (g .5 .1 .0) (g .5 .1 .1) back, refl)))))),
+            λ left. told (ltb-false (vs .2) (b .1) left) λ l.
+                ((fix-len (a .0 .ptr) (a .0 .name) (vs .0) before (inv .size), (tt, (tt, (tt, (tt, (refl, tt)))))), (cases-place form k s rows (b .1) p before (vs .0) (vs .1) (vs .2) inv l (b .5), (cases-risky form k s rows (b .1) p before (vs .0) (vs .1) (vs .2) inv l (b .5), cases-lines form k s rows (b .1) p before (vs .0) (vs .1) (vs .2) inv l (b .5)))),
+          ),
+        ),
+      ),
+    )
 
 pub put-storey-lines-spec : {M : Type 1} → statement M
 unfolding Code.routine tablesOf

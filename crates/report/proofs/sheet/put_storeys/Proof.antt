@@ -22,7 +22,7 @@ use borrow.Rule.Slice.Mut.{setVals, msleft, mslice}
 use borrow.Rule.Slice.Relend.{asShr, asMut, mslice-owed}
 use borrow.Table.Row.{Cx, lease, off, alive, sPtr, sBool}
 use borrow.Table.Rows.{sc-here, any-gone}
-use Rattle.walk.proofs.Walk.{S, _⨾_, _▸_, _◂_, told, _then_, at, slot, from, set, op2, lit, cp, fld, sc, gone, old, forget, falls, test, while, exits, ret, same, u64}
+use Rattle.walk.proofs.Walk.{S, _⨾_, _▸_, told, _then_, at, slot, from, set, op2, lit, cp, fld, sc, gone, old, forget, falls, test, while, exits, ret, same, u64}
 use Rattle.walk.proofs.Slice.{ty, sh-at, R, kept, full, here, sh-ptr, sh-len, val-at, sh-spares, sh-reads, sh-room, mut-at, mut-is, mut-reads, copy-val, elem-out, part, slice, lend-on, back-on, owed-len}
 use Rattle.walk.proofs.Array.{begin, end, over}
 use Rattle.walk.proofs.Fn.{Callee, Knows, Body, Answers, entry, callee, knows, call, meets}
@@ -149,19 +149,42 @@ answers κs qs a good pre bs =
     let h = a .1 .0 in
     let ss = a .1 .1 .0 .now in
     let ms = a .1 .1 .1 .0 .now in
-    let before = a .0 .now in
-    (λ _. tt) ◂ λ o. (λ _. tt) ◂ λ k. (λ _. tt) ◂ λ f.
-    ((before, f .1, 0, 0), refl, passed-none (o .1) (k .1) ss ms before (f .1) (f .5)) ◂ λ vs inv. tt ◂
-    (λ taken. told (ltb-true (vs .3) (length ss) taken) λ l. search needs ◂ tt ◂ (refl, refl, l) ◂ λ _. (λ _. tt) ◂ λ c.
-    told (part-ends h ss ms (pre .0) (o .1) (k .1) (vs .3) (vs .2) (c .1) (o .5) (k .5) l (inv .start) (c .5)) λ ends. told (members-most h ss ms (pre .0)) λ most.
-    told (part-size h ss ms (pre .0) (o .1) (k .1) (vs .3) (vs .2) (c .1) (o .5) (k .5) l (inv .start) (c .5)) λ size.
-    told (part-is ss ms (vs .3) (vs .2) (c .1) (inv .start) (c .5)) λ is.
-    omega (arith, ends, most) ◂ λ γ. refl ◂ omega (arith, ends, most) ◂ tt ◂ omega arith ◂ (refl, refl, omega arith, omega (arith, ends)) ◂ λ p. ap (vint w64) (p .1) ◂
-    (λ _. (part-clear h ss ms (pre .0) (o .1) (k .1) (vs .3) (vs .2) (c .1) (o .5) (k .5) l (inv .start) (c .5), part-fits (o .1) (k .1) ss ms before (vs .0) (vs .1) (vs .2) (vs .3) inv (c .1) _ l (c .5) is size ends (rw (o .5) (pre .1)))) ◂ λ g. refl ◂ λ back. search needs ◂
-    (length ss - (vs .3 + 1), omega arith, ((g .2 .0, g .1, vs .2 + c .1, vs .3 + 1), refl, passed-next (o .1) (k .1) ss ms before (vs .0) (vs .1) (vs .2) (vs .3) inv (c .1) _ l (c .5) is size (g .2 .0) (g .1) (g .5 .0) (g .5 .1 .0) (g .5 .1 .1) back, refl))) ◂
-    λ left. told (ltb-false (vs .3) (length ss) left) λ l.
-    (fix-len (a .0 .ptr) (a .0 .name) (vs .0) before (inv .size), (tt, (refl, (refl, tt)))) ◂
-    (end-place (o .1) (k .1) ss ms before (vs .0) (vs .1) (vs .2) (vs .3) inv l h (o .5) (k .5) (pre .0), (end-risky (o .1) (k .1) ss ms before (vs .0) (vs .1) (vs .2) (vs .3) inv l h (o .5) (k .5), end-lines (o .1) (k .1) ss ms before (vs .0) (vs .1) (vs .2) (vs .3) inv l h (o .5) (k .5)))
+    let before = a .0 .now in (
+      λ _. tt,
+      λ o. (
+        λ _. tt,
+        λ k. (
+          λ _. tt,
+          λ f. (
+            ((before, f .1, 0, 0), refl, passed-none (o .1) (k .1) ss ms before (f .1) (f .5)),
+            λ vs inv. (
+              tt,
+              (
+                λ taken. told (ltb-true (vs .3) (length ss) taken) λ l. (
+                  search needs,
+                  (
+                    tt,
+                    (
+                      (refl, refl, l),
+                      λ _. (
+                        λ _. tt,
+                        λ c.
+                            told (part-ends h ss ms (pre .0) (o .1) (k .1) (vs .3) (vs .2) (c .1) (o .5) (k .5) l (inv .start) (c .5)) λ ends. told (members-most h ss ms (pre .0)) λ most.
+                            told (part-size h ss ms (pre .0) (o .1) (k .1) (vs .3) (vs .2) (c .1) (o .5) (k .5) l (inv .start) (c .5)) λ size.
+                            told (part-is ss ms (vs .3) (vs .2) (c .1) (inv .start) (c .5)) λ is.
+                            (omega (arith, ends, most), λ γ. (refl, (omega (arith, ends, most), (tt, (omega arith, ((refl, refl, omega arith, omega (arith, ends)), λ p. (ap (vint w64) (p .1), (λ _. (part-clear h ss ms (pre .0) (o .1) (k .1) (vs .3) (vs .2) (c .1) (o .5) (k .5) l (inv .start) (c .5), part-fits (o .1) (k .1) ss ms before (vs .0) (vs .1) (vs .2) (vs .3) inv (c .1) _ l (c .5) is size ends (rw (o .5) (pre .1))), λ g. (refl, λ back. (search needs, (length ss - (vs .3 + 1), omega arith, ((g .2 .0, g .1, vs .2 + c .1, vs .3 + 1), refl, passed-next (o .1) (k .1) ss ms before (vs .0) (vs .1) (vs .2) (vs .3) inv (c .1) _ l (c .5) is size (g .2 .0) (g .1) (g .5 .0) (g .5 .1 .0) (g .5 .1 .1) back, refl)))))))))))),
+                      ),
+                    ),
+                  ),
+                ),
+                λ left. told (ltb-false (vs .3) (length ss) left) λ l.
+                    ((fix-len (a .0 .ptr) (a .0 .name) (vs .0) before (inv .size), (tt, (refl, (refl, tt)))), (end-place (o .1) (k .1) ss ms before (vs .0) (vs .1) (vs .2) (vs .3) inv l h (o .5) (k .5) (pre .0), (end-risky (o .1) (k .1) ss ms before (vs .0) (vs .1) (vs .2) (vs .3) inv l h (o .5) (k .5), end-lines (o .1) (k .1) ss ms before (vs .0) (vs .1) (vs .2) (vs .3) inv l h (o .5) (k .5)))),
+              ),
+            ),
+          ),
+        ),
+      ),
+    )
 
 pub put-storeys-spec : {M : Type 1} → statement M
 unfolding Code.routine tablesOf

@@ -15,7 +15,7 @@ use borrow.Rule.Slice.Mut.{msleft}
 use borrow.Rule.Slice.Relend.{asMut, mslice-owed}
 use borrow.Table.Row.{Cx, lease, off, alive, dead, sBool}
 use borrow.Table.Rows.{sc-here, any-gone}
-use Rattle.walk.proofs.Walk.{S, _⨾_, _▸_, _◂_, told, at, slot, from, set, op2, lit, cp, fld, sc, gone, old, forget, when, ret, same, u64}
+use Rattle.walk.proofs.Walk.{S, _⨾_, _▸_, told, at, slot, from, set, op2, lit, cp, fld, sc, gone, old, forget, when, ret, same, u64}
 use Rattle.walk.proofs.Slice.{ty, R, kept, full, here, sh-len, mut-len, val-at, sh-at, sh-spares, sh-reads, mut-at, mut-is, mut-reads, slice, lend-on, back-on, owed-len}
 use Rattle.walk.proofs.Array.{begin, end, over}
 use Rattle.walk.proofs.Fn.{Callee, Knows, Body, Answers, entry, callee, knows, call, meets}
@@ -144,16 +144,51 @@ answers κs qs a good pre bs =
     let h = a .0 in
     let ss = a .1 .0 .now in
     let ms = a .1 .1 .0 .now in
-    let before = a .1 .1 .1 .0 .now in
-    (λ _. tt) ◂ λ r. (λ _. tt) ◂ λ o. (λ _. few h ss ms (r .1) (o .1) (r .5) (o .5)) ◂ λ f.
-    told (fault-is h ss ms (r .1) (o .1) (r .5) (o .5) (f .1) (length before) (f .5)) λ fault. tt ◂
-    (λ hit. told (eqb-false (f .1) 0 (not-true _ hit)) λ ne. (λ _. tt) ◂ λ z.
-    (tt, (refl, (refl, (refl, tt)))) ◂ (answer-refused h ss ms before (f .1) fault ne (z .1 .answer) (z .5), buffer-refused h ss ms before (f .1) fault ne)) ◂
-    λ miss. told (eqb-true (f .1) 0 (not-false _ miss)) λ y. told (building-clear h ss ms before (f .1) fault y) λ none. told (room-enough h ss ms before (f .1) fault y) λ room.
-    λ γ. refl ◂ (λ _. (none, omega (arith, room))) ◂ λ g. refl ◂ λ back.
-    λ γ. refl ◂ (λ _. omega (arith, g .5 .0, back, room)) ◂ λ l. refl ◂ λ last. (λ _. tt) ◂ λ z.
-    (tt, (refl, (refl, (fix-len (a .1 .1 .1 .0 .ptr) (a .1 .1 .1 .0 .name) (l .2 .0) before (last ∙ back), tt)))) ◂
-    (answer-written h ss ms before (f .1) fault y (z .1 .answer) (l .1) (z .5) (omega (arith, g .5 .0, l .5 .0)), buffer-written h ss ms before (f .1) fault y (g .2 .0) (l .2 .0) (g .1 .at) (g .1 .risky) (g .5 .1 .1) (g .5 .1 .0) (g .5 .0) (l .5 .1))
+    let before = a .1 .1 .1 .0 .now in (
+      λ _. tt,
+      λ r. (
+        λ _. tt,
+        λ o. (
+          λ _. few h ss ms (r .1) (o .1) (r .5) (o .5),
+          λ f.
+              told (fault-is h ss ms (r .1) (o .1) (r .5) (o .5) (f .1) (length before) (f .5)) λ fault. (
+                tt,
+                (
+                  λ hit. told (eqb-false (f .1) 0 (not-true _ hit)) λ ne. (
+                    λ _. tt,
+                    λ z.
+                        ((tt, (refl, (refl, (refl, tt)))), (answer-refused h ss ms before (f .1) fault ne (z .1 .answer) (z .5), buffer-refused h ss ms before (f .1) fault ne)),
+                  ),
+                  λ miss. told (eqb-true (f .1) 0 (not-false _ miss)) λ y. told (building-clear h ss ms before (f .1) fault y) λ none. told (room-enough h ss ms before (f .1) fault y) λ room.
+                      λ γ. (
+                        refl,
+                        (
+                          λ _. (none, omega (arith, room)),
+                          λ g. (
+                            refl,
+                            λ back.
+                                λ γ. (
+                                  refl,
+                                  (
+                                    λ _. omega (arith, g .5 .0, back, room),
+                                    λ l. (
+                                      refl,
+                                      λ last. (
+                                        λ _. tt,
+                                        λ z.
+                                            ((tt, (refl, (refl, (fix-len (a .1 .1 .1 .0 .ptr) (a .1 .1 .1 .0 .name) (l .2 .0) before (last ∙ back), tt)))), (answer-written h ss ms before (f .1) fault y (z .1 .answer) (l .1) (z .5) (omega (arith, g .5 .0, l .5 .0)), buffer-written h ss ms before (f .1) fault y (g .2 .0) (l .2 .0) (g .1 .at) (g .1 .risky) (g .5 .1 .1) (g .5 .1 .0) (g .5 .0) (l .5 .1))),
+                                      ),
+                                    ),
+                                  ),
+                                ),
+                          ),
+                        ),
+                      ),
+                ),
+              ),
+        ),
+      ),
+    )
 
 pub write-report-spec : {M : Type 1} → statement M
 unfolding Code.routine tablesOf

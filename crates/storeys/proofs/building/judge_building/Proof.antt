@@ -12,7 +12,7 @@ use borrow.Fn.Args.{vAt}
 use borrow.Fn.World.{World}
 use borrow.Table.Row.{Cx, sBool}
 use borrow.Table.Rows.{sc-here}
-use Rattle.walk.proofs.Walk.{S, _⨾_, _▸_, _◂_, told, at, from, op2, lit, cp, sc, gone, old, forget, when, ret, u64}
+use Rattle.walk.proofs.Walk.{S, _⨾_, _▸_, told, at, from, op2, lit, cp, sc, gone, old, forget, when, ret, u64}
 use Rattle.walk.proofs.Slice.{R, kept, full, here, val-at, sh-at, sh-spares, sh-reads}
 use Rattle.walk.proofs.Fn.{Callee, Knows, Body, Answers, entry, callee, knows, call, meets}
 use Rattle.records.proofs.Structs.{header, member, storey}
@@ -95,12 +95,29 @@ body κs qs bs =
     ret tt)))
 
 answers : Answers Says.judge-building K 0 Code.function body
-answers κs qs a good pre bs =
-    (λ _. tt) ◂ λ f. tt ◂
-    (λ ne. (λ _. tt) ◂ λ x. (tt, (refl, (refl, tt))) ◂ refused (a .0) (a .1 .0 .now) (a .1 .1 .0 .now) (x .1 .answer) (f .1) (x .5) (f .5) (eqb-false (f .1) 0 (not-true (eqb (f .1) 0) ne))) ◂
-    λ no. told (eqb-true (f .1) 0 (not-false (eqb (f .1) 0) no)) λ y. (λ _. tt) ◂ λ o. (λ _. tt) ◂ λ k.
-    (λ _. good-rows (a .0) (a .1 .0 .now) (a .1 .1 .0 .now) (f .1) (f .5) y (o .1) (k .1) (o .5) (k .5)) ◂ λ v. (λ _. tt) ◂ λ x.
-    (tt, (refl, (refl, tt))) ◂ judged-rows (a .0) (a .1 .0 .now) (a .1 .1 .0 .now) (f .1) (f .5) y (o .1) (k .1) (o .5) (k .5) (v .1) (x .1 .answer) (v .5) (x .5)
+answers κs qs a good pre bs = (
+  λ _. tt,
+  λ f. (
+    tt,
+    (
+      λ ne. (λ _. tt, λ x. ((tt, (refl, (refl, tt))), refused (a .0) (a .1 .0 .now) (a .1 .1 .0 .now) (x .1 .answer) (f .1) (x .5) (f .5) (eqb-false (f .1) 0 (not-true (eqb (f .1) 0) ne)))),
+      λ no. told (eqb-true (f .1) 0 (not-false (eqb (f .1) 0) no)) λ y. (
+        λ _. tt,
+        λ o. (
+          λ _. tt,
+          λ k. (
+            λ _. good-rows (a .0) (a .1 .0 .now) (a .1 .1 .0 .now) (f .1) (f .5) y (o .1) (k .1) (o .5) (k .5),
+            λ v. (
+              λ _. tt,
+              λ x.
+                  ((tt, (refl, (refl, tt))), judged-rows (a .0) (a .1 .0 .now) (a .1 .1 .0 .now) (f .1) (f .5) y (o .1) (k .1) (o .5) (k .5) (v .1) (x .1 .answer) (v .5) (x .5)),
+            ),
+          ),
+        ),
+      ),
+    ),
+  ),
+)
 
 pub judge-building-spec : {M : Type 1} → statement M
 unfolding Code.routine tablesOf

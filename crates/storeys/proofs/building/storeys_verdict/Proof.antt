@@ -23,7 +23,7 @@ use borrow.Fn.World.{World}
 use borrow.Rule.Slice.Relend.{asShr, ssptr}
 use borrow.Table.Row.{Cx, sPtr, sBool}
 use borrow.Table.Rows.{sc-here}
-use Rattle.walk.proofs.Walk.{S, _⨾_, _▸_, _◂_, told, _then_, at, from, set, op2, lit, cp, fld, sc, gone, old, forget, falls, test, while, exits, ret, same, u64}
+use Rattle.walk.proofs.Walk.{S, _⨾_, _▸_, told, _then_, at, from, set, op2, lit, cp, fld, sc, gone, old, forget, falls, test, while, exits, ret, same, u64}
 use Rattle.walk.proofs.Slice.{R, kept, full, here, sh-ptr, sh-len, val-at, sh-at, sh-spares, sh-reads, sh-room, copy-val, elem-out, part, slice}
 use Rattle.walk.proofs.Fn.{Callee, Knows, Body, Answers, entry, callee, knows, call, meets}
 use Rattle.records.proofs.Structs.{member, storey, member-bytes, storey-bytes}
@@ -128,14 +128,59 @@ body κs qs bs =
     ret tt))
 
 answers : Answers Says.storeys-verdict K 0 Code.function body
-answers κs qs a good pre bs =
-    (λ _. tt) ◂ λ v. ((v .1, 0, 0), refl, (omega arith, none-before (a .1 .1 .0 .now), v .5 ∙ verdict-none (a .0) (a .1 .0) (a .1 .1 .0 .now) (a .1 .1 .1 .0 .now))) ◂ λ vs inv. tt ◂
-    (λ taken. told (ltb-true (vs .2) (length (a .1 .1 .0 .now)) taken) λ l.
-    search needs ◂ tt ◂ (refl, refl, l) ◂ λ _. (λ _. tt) ◂ λ c. told (next-within (a .1 .1 .0 .now) (a .1 .1 .1 .0 .now) (vs .2) (vs .1) (c .1) (inv .1) (c .5) (pre .counted)) λ w.
-    search needs ◂ search needs ◂ tt ◂ search needs ◂ (refl, refl, omega arith, w) ◂ λ p. ap (vint w64) (p .1) ◂
-    (λ _. found-due (a .0) (a .1 .0) (a .1 .1 .0 .now) (a .1 .1 .1 .0 .now) pre (vs .2) (vs .1) (c .1) _ l refl (inv .1) (c .5)) ◂ λ f. search needs ◂ (λ _. tt) ◂ λ n.
-    (length (a .1 .1 .0 .now) - (vs .2 + 1), omega arith, ((n .1, vs .1 + c .1, vs .2 + 1), refl, (omega arith, next-before (a .1 .1 .0 .now) (a .1 .1 .1 .0 .now) (vs .2) (vs .1) (c .1) (inv .1) (c .5), verdict-next (a .0) (a .1 .0) (a .1 .1 .0 .now) (a .1 .1 .1 .0 .now) pre (vs .2) (vs .1) (c .1) _ l refl (inv .1) (c .5) (vs .0) (n .1) (f .1) (inv .2) (f .5) (n .5)), refl))) ◂
-    λ left. told (ltb-false (vs .2) (length (a .1 .1 .0 .now)) left) λ l. (tt, (tt, (refl, (refl, tt)))) ◂ verdict-all (a .0) (a .1 .0) (a .1 .1 .0 .now) (a .1 .1 .1 .0 .now) (vs .0) (vs .2) (inv .2) (inv .0) l
+answers κs qs a good pre bs = (
+  λ _. tt,
+  λ v. (
+    ((v .1, 0, 0), refl, (omega arith, none-before (a .1 .1 .0 .now), v .5 ∙ verdict-none (a .0) (a .1 .0) (a .1 .1 .0 .now) (a .1 .1 .1 .0 .now))),
+    λ vs inv. (
+      tt,
+      (
+        λ taken. told (ltb-true (vs .2) (length (a .1 .1 .0 .now)) taken) λ l. (
+          search needs,
+          (
+            tt,
+            (
+              (refl, refl, l),
+              λ _. (
+                λ _. tt,
+                λ c. told (next-within (a .1 .1 .0 .now) (a .1 .1 .1 .0 .now) (vs .2) (vs .1) (c .1) (inv .1) (c .5) (pre .counted)) λ w. (
+                  search needs,
+                  (
+                    search needs,
+                    (
+                      tt,
+                      (
+                        search needs,
+                        (
+                          (refl, refl, omega arith, w),
+                          λ p. (
+                            ap (vint w64) (p .1),
+                            (
+                              λ _. found-due (a .0) (a .1 .0) (a .1 .1 .0 .now) (a .1 .1 .1 .0 .now) pre (vs .2) (vs .1) (c .1) _ l refl (inv .1) (c .5),
+                              λ f. (
+                                search needs,
+                                (
+                                  λ _. tt,
+                                  λ n.
+                                      (length (a .1 .1 .0 .now) - (vs .2 + 1), omega arith, ((n .1, vs .1 + c .1, vs .2 + 1), refl, (omega arith, next-before (a .1 .1 .0 .now) (a .1 .1 .1 .0 .now) (vs .2) (vs .1) (c .1) (inv .1) (c .5), verdict-next (a .0) (a .1 .0) (a .1 .1 .0 .now) (a .1 .1 .1 .0 .now) pre (vs .2) (vs .1) (c .1) _ l refl (inv .1) (c .5) (vs .0) (n .1) (f .1) (inv .2) (f .5) (n .5)), refl)),
+                                ),
+                              ),
+                            ),
+                          ),
+                        ),
+                      ),
+                    ),
+                  ),
+                ),
+              ),
+            ),
+          ),
+        ),
+        λ left. told (ltb-false (vs .2) (length (a .1 .1 .0 .now)) left) λ l. ((tt, (tt, (refl, (refl, tt)))), verdict-all (a .0) (a .1 .0) (a .1 .1 .0 .now) (a .1 .1 .1 .0 .now) (vs .0) (vs .2) (inv .2) (inv .0) l),
+      ),
+    ),
+  ),
+)
 
 pub storeys-verdict-spec : {M : Type 1} → statement M
 unfolding Code.routine tablesOf

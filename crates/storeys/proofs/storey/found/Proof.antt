@@ -10,7 +10,7 @@ use borrow.Fn.Args.{vAt}
 use borrow.Fn.World.{World}
 use borrow.Table.Row.{Cx, sBool}
 use borrow.Table.Rows.{any-gone, sc-here}
-use Rattle.walk.proofs.Walk.{S, _⨾_, _▸_, _◂_, at, from, sc, gone, old, forget, ret, u64}
+use Rattle.walk.proofs.Walk.{S, _⨾_, _▸_, at, from, sc, gone, old, forget, ret, u64}
 use Rattle.walk.proofs.Slice.{ty, R, kept, full, here, val-at, sh-at, sh-spares, sh-reads}
 use Rattle.walk.proofs.Fn.{Callee, Knows, Body, Answers, entry, callee, knows, call, meets}
 use Rattle.records.proofs.Structs.{member, storey}
@@ -76,8 +76,7 @@ body κs qs bs =
 
 answers : Answers Says.found K 0 Code.function body
 answers κs qs a good pre bs =
-    (λ _. tt) ◂ λ w. (λ _. tt) ◂ λ m. (λ _. (pre .0, pre .1, pre .3)) ◂ λ t. (λ _. tt) ◂ λ f. (tt, (tt, (tt, (refl, (tt, tt))))) ◂
-    found-is (a .0) (a .1 .1 .1 .1 .0) (pre .3) (a .1 .1 .1 .0 .now) (pre .0) (a .1 .1 .0) (pre .2) (a .1 .0) (w .1) (m .1) (t .1) (f .1) (w .5) (m .5) (t .5) (f .5)
+    (λ _. tt, λ w. (λ _. tt, λ m. (λ _. (pre .0, pre .1, pre .3), λ t. (λ _. tt, λ f. ((tt, (tt, (tt, (refl, (tt, tt))))), found-is (a .0) (a .1 .1 .1 .1 .0) (pre .3) (a .1 .1 .1 .0 .now) (pre .0) (a .1 .1 .0) (pre .2) (a .1 .0) (w .1) (m .1) (t .1) (f .1) (w .5) (m .5) (t .5) (f .5))))))
 
 pub found-spec : {M : Type 1} → statement M
 unfolding Code.routine tablesOf

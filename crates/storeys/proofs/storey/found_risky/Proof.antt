@@ -16,7 +16,7 @@ use borrow.Fn.World.{World}
 use borrow.Table.Row.{Cx, sBool}
 use borrow.Table.Rows.{sc-here}
 use Rattle.records.specs.Notation.{anyBelow}
-use Rattle.walk.proofs.Walk.{S, _⨾_, _▸_, _◂_, told, at, from, set, op2, lit, cp, sc, gone, old, forget, falls, test, while, exits, ret, u64}
+use Rattle.walk.proofs.Walk.{S, _⨾_, _▸_, told, at, from, set, op2, lit, cp, sc, gone, old, forget, falls, test, while, exits, ret, u64}
 use Rattle.walk.proofs.Slice.{R, kept, full, here, val-at, sh-at, sh-spares, sh-reads}
 use Rattle.walk.proofs.Fn.{Callee, Knows, Body, Answers, entry, callee, knows, call, meets}
 use Rattle.records.proofs.Structs.{member, storey}
@@ -85,12 +85,20 @@ body κs qs bs =
     ret tt))
 
 answers : Answers Says.found-risky K 0 Code.function body
-answers κs qs a good pre bs =
-    (λ _. tt) ◂ λ n. ((false, 0), refl, (omega arith, risky-none (a .1 .0) (a .1 .1 .0) (a .1 .1 .1 .0 .now))) ◂ λ vs inv. tt ◂
-    (λ taken. told (ltb-true (vs .1) (n .1) taken) λ l.
-    (λ _. (pre .0, pre .1, pre .2, omega (arith, l, n .5))) ◂ λ f. (λ _. tt) ◂ λ z. search needs ◂
-    (n .1 - (vs .1 + 1), omega arith, ((z .1, vs .1 + 1), refl, (omega arith, risky-next (a .1 .0) (a .1 .1 .0) (a .1 .1 .1 .0 .now) (vs .1) (vs .0) (z .1) (f .1) (inv .1) (f .5) (z .5)), refl))) ◂
-    λ left. (tt, (tt, (tt, (refl, tt)))) ◂ risky-all (a .1 .0) (a .1 .1 .0) (a .1 .1 .1 .0 .now) (a .0) (vs .1) (n .1) (vs .0) (n .5) (inv .0) (ltb-false (vs .1) (n .1) left) (inv .1)
+answers κs qs a good pre bs = (
+  λ _. tt,
+  λ n. (
+    ((false, 0), refl, (omega arith, risky-none (a .1 .0) (a .1 .1 .0) (a .1 .1 .1 .0 .now))),
+    λ vs inv. (
+      tt,
+      (
+        λ taken. told (ltb-true (vs .1) (n .1) taken) λ l.
+            (λ _. (pre .0, pre .1, pre .2, omega (arith, l, n .5)), λ f. (λ _. tt, λ z. (search needs, (n .1 - (vs .1 + 1), omega arith, ((z .1, vs .1 + 1), refl, (omega arith, risky-next (a .1 .0) (a .1 .1 .0) (a .1 .1 .1 .0 .now) (vs .1) (vs .0) (z .1) (f .1) (inv .1) (f .5) (z .5)), refl))))),
+        λ left. ((tt, (tt, (tt, (refl, tt)))), risky-all (a .1 .0) (a .1 .1 .0) (a .1 .1 .1 .0 .now) (a .0) (vs .1) (n .1) (vs .0) (n .5) (inv .0) (ltb-false (vs .1) (n .1) left) (inv .1)),
+      ),
+    ),
+  ),
+)
 
 pub found-risky-spec : {M : Type 1} → statement M
 unfolding Code.routine tablesOf

@@ -10,7 +10,7 @@ use borrow.Fn.Args.{vAt}
 use borrow.Fn.World.{World}
 use borrow.Table.Row.{Cx, sBool}
 use borrow.Table.Rows.{sc-here}
-use Rattle.walk.proofs.Walk.{told, S, _⨾_, _▸_, _◂_, at, from, set, op2, lit, cp, fld, sc, gone, old, forget, when, ret, u64}
+use Rattle.walk.proofs.Walk.{told, S, _⨾_, _▸_, at, from, set, op2, lit, cp, fld, sc, gone, old, forget, when, ret, u64}
 use Rattle.walk.proofs.Slice.{R, kept, full, here, sh-len, val-at, sh-at, sh-spares, sh-reads}
 use Rattle.walk.proofs.Fn.{Callee, Knows, Body, Answers, entry, callee, knows, call, meets}
 use Rattle.records.proofs.Structs.{member, storey}
@@ -82,13 +82,26 @@ body κs qs bs =
     ret tt)))))
 
 answers : Answers Says.judge-storey K 0 Code.function body
-answers κs qs a good pre bs =
-    (λ _. tt) ◂ λ h. tt ◂
-    (λ hit. (λ _. tt) ◂ λ r. (tt, (tt, (tt, (refl, tt)))) ◂ head-refused (a .0) (a .1 .0) (a .1 .1 .0) (a .1 .1 .1 .0 .now) (h .1) (h .5) (r .1 .answer) (eqb-false (h .1) 0 (not-true _ hit)) (r .5)) ◂
-    λ miss. told (eqb-true (h .1) 0 (not-false _ miss)) λ z. (λ _. tt) ◂ λ f. tt ◂
-    (λ hit. (λ _. tt) ◂ λ r. (tt, (tt, (tt, (refl, tt)))) ◂ rows-refused (a .0) (a .1 .0) (a .1 .1 .0) (a .1 .1 .1 .0 .now) (h .1) (h .5) z (f .1) (f .5) (r .1 .answer) (eqb-false (f .1) 0 (not-true _ hit)) (r .5)) ◂
-    λ miss. told (call-fault (a .0) (a .1 .0) (a .1 .1 .0) (a .1 .1 .1 .0 .now) (h .1) (h .5) z (f .1) (f .5) ∙ eqb-true (f .1) 0 (not-false _ miss)) λ none.
-    (λ _. none) ◂ λ r. (tt, (tt, (tt, (refl, tt)))) ◂ judged-is (a .0) (a .1 .0) (a .1 .1 .0) (a .1 .1 .1 .0 .now) none (r .1 .answer) (r .5)
+answers κs qs a good pre bs = (
+  λ _. tt,
+  λ h. (
+    tt,
+    (
+      λ hit. (λ _. tt, λ r. ((tt, (tt, (tt, (refl, tt)))), head-refused (a .0) (a .1 .0) (a .1 .1 .0) (a .1 .1 .1 .0 .now) (h .1) (h .5) (r .1 .answer) (eqb-false (h .1) 0 (not-true _ hit)) (r .5))),
+      λ miss. told (eqb-true (h .1) 0 (not-false _ miss)) λ z. (
+        λ _. tt,
+        λ f. (
+          tt,
+          (
+            λ hit. (λ _. tt, λ r. ((tt, (tt, (tt, (refl, tt)))), rows-refused (a .0) (a .1 .0) (a .1 .1 .0) (a .1 .1 .1 .0 .now) (h .1) (h .5) z (f .1) (f .5) (r .1 .answer) (eqb-false (f .1) 0 (not-true _ hit)) (r .5))),
+            λ miss. told (call-fault (a .0) (a .1 .0) (a .1 .1 .0) (a .1 .1 .1 .0 .now) (h .1) (h .5) z (f .1) (f .5) ∙ eqb-true (f .1) 0 (not-false _ miss)) λ none.
+                (λ _. none, λ r. ((tt, (tt, (tt, (refl, tt)))), judged-is (a .0) (a .1 .0) (a .1 .1 .0) (a .1 .1 .1 .0 .now) none (r .1 .answer) (r .5))),
+          ),
+        ),
+      ),
+    ),
+  ),
+)
 
 pub judge-storey-spec : {M : Type 1} → statement M
 unfolding Code.routine tablesOf

@@ -10,7 +10,7 @@ use denote.Memory.{pointee}
 use borrow.Fn.Args.{vAt, vLit}
 use borrow.Fn.World.{World}
 use borrow.Table.Row.{Cx, sBool}
-use Rattle.walk.proofs.Walk.{S, _⨾_, _▸_, _◂_, told, at, from, op2, lit, cp, sc, gone, old, forget, when, ret, u64}
+use Rattle.walk.proofs.Walk.{S, _⨾_, _▸_, told, at, from, op2, lit, cp, sc, gone, old, forget, when, ret, u64}
 use Rattle.walk.proofs.Slice.{R, kept, full, here, val-at, sh-at, sh-spares, sh-reads}
 use Rattle.walk.proofs.Fn.{Callee, Knows, Body, Answers, entry, callee, knows, call, meets}
 use Rattle.records.proofs.Cases.{cases-least}
@@ -82,13 +82,26 @@ body κs qs bs =
     ret tt))))
 
 answers : Answers Says.judged K 0 Code.function body
-answers κs qs a good pre bs =
-    (λ _. (storey-rows (a .1 .0) (a .0) (a .1 .1 .0) (a .1 .1 .1 .0 .now) pre, storey-level (a .1 .0) (a .0) (a .1 .1 .0) (a .1 .1 .1 .0 .now) pre, storey-good (a .1 .0) (a .0) (a .1 .1 .0) (a .1 .1 .1 .0 .now) pre, cases-least (a .0))) ◂ λ f. tt ◂
-    (λ hit. (λ _. tt) ◂ λ r. (tt, (tt, (tt, (refl, tt)))) ◂ judged-one (a .0) (a .1 .0) (a .1 .1 .0) (a .1 .1 .1 .0 .now) (r .1 .answer) (f .1) (eqb-false (a .0) 2 (not-true (eqb (a .0) 2) hit)) (f .5) (r .5)) ◂
-    λ miss. told (eqb-true (a .0) 2 (not-false (eqb (a .0) 2) miss)) λ e.
-    (λ _. (storey-rows (a .1 .0) (a .0) (a .1 .1 .0) (a .1 .1 .1 .0 .now) pre, storey-level (a .1 .0) (a .0) (a .1 .1 .0) (a .1 .1 .1 .0 .now) pre, storey-good (a .1 .0) (a .0) (a .1 .1 .0) (a .1 .1 .1 .0 .now) pre, case-of-four (a .0) 1 e (omega arith))) ◂ λ g. (λ _. (storey-rows (a .1 .0) (a .0) (a .1 .1 .0) (a .1 .1 .1 .0 .now) pre, storey-level (a .1 .0) (a .0) (a .1 .1 .0) (a .1 .1 .1 .0 .now) pre, storey-good (a .1 .0) (a .0) (a .1 .1 .0) (a .1 .1 .1 .0 .now) pre, case-of-four (a .0) 2 e (omega arith))) ◂ λ h. (λ _. (storey-rows (a .1 .0) (a .0) (a .1 .1 .0) (a .1 .1 .1 .0 .now) pre, storey-level (a .1 .0) (a .0) (a .1 .1 .0) (a .1 .1 .1 .0 .now) pre, storey-good (a .1 .0) (a .0) (a .1 .1 .0) (a .1 .1 .1 .0 .now) pre, case-of-four (a .0) 3 e (omega arith))) ◂ λ i.
-    (λ _. tt) ◂ λ r. (tt, (tt, (tt, (refl, tt)))) ◂
-    judged-four (a .0) (a .1 .0) (a .1 .1 .0) (a .1 .1 .1 .0 .now) (r .1 .answer) (f .1) (g .1) (h .1) (i .1) e (f .5) (g .5) (h .5) (i .5) (r .5)
+answers κs qs a good pre bs = (
+  λ _. (storey-rows (a .1 .0) (a .0) (a .1 .1 .0) (a .1 .1 .1 .0 .now) pre, storey-level (a .1 .0) (a .0) (a .1 .1 .0) (a .1 .1 .1 .0 .now) pre, storey-good (a .1 .0) (a .0) (a .1 .1 .0) (a .1 .1 .1 .0 .now) pre, cases-least (a .0)),
+  λ f. (
+    tt,
+    (
+      λ hit. (λ _. tt, λ r. ((tt, (tt, (tt, (refl, tt)))), judged-one (a .0) (a .1 .0) (a .1 .1 .0) (a .1 .1 .1 .0 .now) (r .1 .answer) (f .1) (eqb-false (a .0) 2 (not-true (eqb (a .0) 2) hit)) (f .5) (r .5))),
+      λ miss. told (eqb-true (a .0) 2 (not-false (eqb (a .0) 2) miss)) λ e. (
+        λ _. (storey-rows (a .1 .0) (a .0) (a .1 .1 .0) (a .1 .1 .1 .0 .now) pre, storey-level (a .1 .0) (a .0) (a .1 .1 .0) (a .1 .1 .1 .0 .now) pre, storey-good (a .1 .0) (a .0) (a .1 .1 .0) (a .1 .1 .1 .0 .now) pre, case-of-four (a .0) 1 e (omega arith)),
+        λ g. (
+          λ _. (storey-rows (a .1 .0) (a .0) (a .1 .1 .0) (a .1 .1 .1 .0 .now) pre, storey-level (a .1 .0) (a .0) (a .1 .1 .0) (a .1 .1 .1 .0 .now) pre, storey-good (a .1 .0) (a .0) (a .1 .1 .0) (a .1 .1 .1 .0 .now) pre, case-of-four (a .0) 2 e (omega arith)),
+          λ h. (
+            λ _. (storey-rows (a .1 .0) (a .0) (a .1 .1 .0) (a .1 .1 .1 .0 .now) pre, storey-level (a .1 .0) (a .0) (a .1 .1 .0) (a .1 .1 .1 .0 .now) pre, storey-good (a .1 .0) (a .0) (a .1 .1 .0) (a .1 .1 .1 .0 .now) pre, case-of-four (a .0) 3 e (omega arith)),
+            λ i.
+                (λ _. tt, λ r. ((tt, (tt, (tt, (refl, tt)))), judged-four (a .0) (a .1 .0) (a .1 .1 .0) (a .1 .1 .1 .0 .now) (r .1 .answer) (f .1) (g .1) (h .1) (i .1) e (f .5) (g .5) (h .5) (i .5) (r .5))),
+          ),
+        ),
+      ),
+    ),
+  ),
+)
 
 pub judged-spec : {M : Type 1} → statement M
 unfolding Code.routine tablesOf

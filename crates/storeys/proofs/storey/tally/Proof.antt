@@ -16,7 +16,7 @@ use borrow.Fn.Args.{vAt}
 use borrow.Fn.World.{World}
 use borrow.Table.Row.{Cx, sPtr, sBool}
 use borrow.Table.Rows.{sc-here}
-use Rattle.walk.proofs.Walk.{S, _⨾_, _▸_, _◂_, told, at, from, set, op2, lit, cp, fld, sc, gone, old, forget, falls, test, while, exits, ret, same, u64}
+use Rattle.walk.proofs.Walk.{S, _⨾_, _▸_, told, at, from, set, op2, lit, cp, fld, sc, gone, old, forget, falls, test, while, exits, ret, same, u64}
 use Rattle.walk.proofs.Slice.{R, kept, full, here, sh-ptr, sh-len, val-at, copy-val, elem-out}
 use Rattle.walk.proofs.Fn.{Callee, Knows, Body, Answers, entry, call, meets}
 use Rattle.records.proofs.Structs.{member, member-bytes}
@@ -81,12 +81,20 @@ body κs qs bs =
     ret tt))
 
 answers : Answers Says.tally K 0 Code.function body
-answers κs qs a good pre bs =
-    (λ _. tt) ◂ λ s. ((s .1, 0), refl, rw (s .5) (going-none (a .1 .1 .0) (a .1 .1 .1 .0) (a .1 .1 .1 .1 .0) (a .1 .0 .now))) ◂ λ vs inv. tt ◂
-    (λ taken. told (ltb-true (vs .1) (length (a .1 .0 .now)) taken) λ l.
-    search needs ◂ tt ◂ (refl, refl, l) ◂ λ _. (λ _. tally-room (a .1 .1 .0) (a .1 .1 .1 .0) (a .1 .1 .1 .1 .0) (a .1 .0 .now) (a .0) (pre .2) (pre .0) (vs .0) (vs .1) inv l (pre .1)) ◂ λ g. search needs ◂
-    (length (a .1 .0 .now) - (vs .1 + 1), omega arith, ((g .1, vs .1 + 1), refl, going-next (a .1 .1 .0) (a .1 .1 .1 .0) (a .1 .1 .1 .1 .0) (a .1 .0 .now) (a .0) (pre .2) (pre .0) (vs .0) (vs .1) inv l (g .1) (g .5), refl))) ◂
-    λ left. (tt, (refl, (tt, (tt, (tt, tt))))) ◂ going-all (a .1 .1 .0) (a .1 .1 .1 .0) (a .1 .1 .1 .1 .0) (a .1 .0 .now) (vs .0) (vs .1) inv (ltb-false (vs .1) (length (a .1 .0 .now)) left)
+answers κs qs a good pre bs = (
+  λ _. tt,
+  λ s. (
+    ((s .1, 0), refl, rw (s .5) (going-none (a .1 .1 .0) (a .1 .1 .1 .0) (a .1 .1 .1 .1 .0) (a .1 .0 .now))),
+    λ vs inv. (
+      tt,
+      (
+        λ taken. told (ltb-true (vs .1) (length (a .1 .0 .now)) taken) λ l.
+            (search needs, (tt, ((refl, refl, l), λ _. (λ _. tally-room (a .1 .1 .0) (a .1 .1 .1 .0) (a .1 .1 .1 .1 .0) (a .1 .0 .now) (a .0) (pre .2) (pre .0) (vs .0) (vs .1) inv l (pre .1), λ g. (search needs, (length (a .1 .0 .now) - (vs .1 + 1), omega arith, ((g .1, vs .1 + 1), refl, going-next (a .1 .1 .0) (a .1 .1 .1 .0) (a .1 .1 .1 .1 .0) (a .1 .0 .now) (a .0) (pre .2) (pre .0) (vs .0) (vs .1) inv l (g .1) (g .5), refl))))))),
+        λ left. ((tt, (refl, (tt, (tt, (tt, tt))))), going-all (a .1 .1 .0) (a .1 .1 .1 .0) (a .1 .1 .1 .1 .0) (a .1 .0 .now) (vs .0) (vs .1) inv (ltb-false (vs .1) (length (a .1 .0 .now)) left)),
+      ),
+    ),
+  ),
+)
 
 pub tally-spec : {M : Type 1} → statement M
 unfolding Code.routine tablesOf

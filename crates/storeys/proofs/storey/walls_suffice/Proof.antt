@@ -17,7 +17,7 @@ use borrow.Fn.Args.{vAt}
 use borrow.Fn.World.{World}
 use borrow.Table.Row.{Cx, sPtr, sBool}
 use borrow.Table.Rows.{sc-here}
-use Rattle.walk.proofs.Walk.{S, _⨾_, _▸_, _◂_, told, at, from, set, op2, lit, cp, fld, sc, gone, old, forget, falls, test, while, exits, ret, same, u64}
+use Rattle.walk.proofs.Walk.{S, _⨾_, _▸_, told, at, from, set, op2, lit, cp, fld, sc, gone, old, forget, falls, test, while, exits, ret, same, u64}
 use Rattle.walk.proofs.Slice.{R, kept, full, here, sh-ptr, sh-len, val-at, elem-out}
 use Rattle.walk.proofs.Fn.{Callee, Knows, Body, Answers, entry, call, meets}
 use Rattle.records.proofs.Structs.{member, member-bytes}
@@ -79,12 +79,17 @@ body κs qs bs =
     ret tt))
 
 answers : Answers Says.walls-suffice K 0 Code.function body
-answers κs qs a good pre bs =
-    ((0, 0), refl, (refl, omega arith)) ◂ λ vs inv. tt ◂
-    (λ taken. told (ltb-true (vs .1) (length (a .1 .0 .now)) taken) λ l.
-    search needs ◂ tt ◂ (refl, refl, l) ◂ λ _. (λ _. tt) ◂ λ g. search needs ◂
-    (length (a .1 .0 .now) - (vs .1 + 1), omega arith, ((g .1, vs .1 + 1), refl, (wall-next (a .1 .1 .0) (a .1 .0 .now) (vs .0) (vs .1) (inv .0) (g .1) l (g .5), wall-most (vs .0) (g .1) (inCase (a .1 .1 .0) (memberIn (a .1 .0 .now) (vs .1))) (inv .1) (g .5)), refl))) ◂
-    λ left. (λ _. inv .1) ◂ λ m. (tt, (refl, (tt, tt))) ◂ suffice-is (a .1 .1 .0) (a .1 .0 .now) (a .0) (vs .0) (m .1) (wall-all (a .1 .1 .0) (a .1 .0 .now) (vs .0) (vs .1) (inv .0) (ltb-false (vs .1) (length (a .1 .0 .now)) left)) (m .5)
+answers κs qs a good pre bs = (
+  ((0, 0), refl, (refl, omega arith)),
+  λ vs inv. (
+    tt,
+    (
+      λ taken. told (ltb-true (vs .1) (length (a .1 .0 .now)) taken) λ l.
+          (search needs, (tt, ((refl, refl, l), λ _. (λ _. tt, λ g. (search needs, (length (a .1 .0 .now) - (vs .1 + 1), omega arith, ((g .1, vs .1 + 1), refl, (wall-next (a .1 .1 .0) (a .1 .0 .now) (vs .0) (vs .1) (inv .0) (g .1) l (g .5), wall-most (vs .0) (g .1) (inCase (a .1 .1 .0) (memberIn (a .1 .0 .now) (vs .1))) (inv .1) (g .5)), refl))))))),
+      λ left. (λ _. inv .1, λ m. ((tt, (refl, (tt, tt))), suffice-is (a .1 .1 .0) (a .1 .0 .now) (a .0) (vs .0) (m .1) (wall-all (a .1 .1 .0) (a .1 .0 .now) (vs .0) (vs .1) (inv .0) (ltb-false (vs .1) (length (a .1 .0 .now)) left)) (m .5))),
+    ),
+  ),
+)
 
 pub walls-suffice-spec : {M : Type 1} → statement M
 unfolding Code.routine tablesOf

@@ -20,7 +20,7 @@ use borrow.Rule.Slice.Mut.{setVals, mslice}
 use borrow.Rule.Slice.Relend.{asMut, mslice-owed}
 use borrow.Table.Row.{Cx, lease, off, alive, dead, sPtr, sBool}
 use borrow.Table.Rows.{sc-here}
-use Rattle.walk.proofs.Walk.{S, _⨾_, _▸_, _◂_, told, at, slot, from, set, op2, lit, cp, fld, sc, gone, old, forget, falls, test, while, exits, ret, same, u64}
+use Rattle.walk.proofs.Walk.{S, _⨾_, _▸_, told, at, slot, from, set, op2, lit, cp, fld, sc, gone, old, forget, falls, test, while, exits, ret, same, u64}
 use Rattle.walk.proofs.Slice.{R, kept, full, here, sh-ptr, sh-len, val-at, mut-at, mut-is, mut-reads, elem-out, slice, lend-on, back-on, owed-len}
 use Rattle.walk.proofs.Array.{begin, end, over}
 use Rattle.walk.proofs.Fn.{Callee, Knows, Body, Answers, entry, call, meets}
@@ -89,38 +89,38 @@ body κs qs bs =
     ret tt))
 
 answers : Answers Says.put-members K 1 Code.function body
-answers κs qs a good pre bs =
-    ((a .0 .now, a .1 .0, 0), refl, (omega arith, omega arith, refl, refl)) ◂ λ vs inv. (
-      tt,
-      (
-        λ taken. told (ltb-true (vs .2) (length (a .1 .1 .1 .0 .now)) taken) λ l. λ γ. (
-          refl,
+answers κs qs a good pre bs = (
+  ((a .0 .now, a .1 .0, 0), refl, (omega arith, omega arith, refl, refl)),
+  λ vs inv. (
+    tt,
+    (
+      λ taken. told (ltb-true (vs .2) (length (a .1 .1 .1 .0 .now)) taken) λ l. λ γ. (
+        refl,
+        (
+          search needs,
           (
-            search needs,
+            tt,
             (
-              tt,
-              (
-                (refl, refl, omega arith),
-                λ _. (
-                  λ _. members-room (a .1 .1 .0) (a .1 .1 .1 .0 .now) (vs .0) (a .0 .now) (a .1 .0) (vs .1) (vs .2) pre (inv .1) (inv .2) l,
-                  λ g. (
-                    refl,
-                    λ back. (
-                      search needs,
+              (refl, refl, omega arith),
+              λ _. (
+                λ _. members-room (a .1 .1 .0) (a .1 .1 .1 .0 .now) (vs .0) (a .0 .now) (a .1 .0) (vs .1) (vs .2) pre (inv .1) (inv .2) l,
+                λ g. (
+                  refl,
+                  λ back. (
+                    search needs,
+                    (
+                      length (a .1 .1 .1 .0 .now) - (vs .2 + 1),
+                      omega arith,
                       (
-                        length (a .1 .1 .1 .0 .now) - (vs .2 + 1),
-                        omega arith,
+                        (g .2 .0, g .1, vs .2 + 1),
+                        refl,
                         (
-                          (g .2 .0, g .1, vs .2 + 1),
-                          refl,
-                          (
-                            omega arith,
-                            omega (arith, g .5 .0, inv .1),
-                            back ∙ inv .2,
-                            members-next (a .1 .1 .0) (a .1 .1 .1 .0 .now) (vs .0) _ (g .2 .0) (vs .1) (g .1) (vs .2) (inv .3) l (g .5 .1) (g .5 .0),
-                          ),
-                          refl,
+                          omega arith,
+                          omega (arith, g .5 .0, inv .1),
+                          back ∙ inv .2,
+                          members-next (a .1 .1 .0) (a .1 .1 .1 .0 .now) (vs .0) _ (g .2 .0) (vs .1) (g .1) (vs .2) (inv .3) l (g .5 .1) (g .5 .0),
                         ),
+                        refl,
                       ),
                     ),
                   ),
@@ -129,12 +129,14 @@ answers κs qs a good pre bs =
             ),
           ),
         ),
-        λ left. told (ltb-false (vs .2) (length (a .1 .1 .1 .0 .now)) left) λ l. (
-          (fix-len (a .0 .ptr) (a .0 .name) (vs .0) (a .0 .now) (inv .2), (tt, (tt, (refl, tt)))),
-          (members-place (a .1 .1 .0) (a .1 .1 .1 .0 .now) (a .1 .0) (vs .1) (vs .2) (inv .1) (inv .0) l, members-end (a .1 .1 .0) (a .1 .1 .1 .0 .now) (vs .0) _ (vs .1) (vs .2) (inv .3) l),
-        ),
       ),
-    )
+      λ left. told (ltb-false (vs .2) (length (a .1 .1 .1 .0 .now)) left) λ l. (
+        (fix-len (a .0 .ptr) (a .0 .name) (vs .0) (a .0 .now) (inv .2), (tt, (tt, (refl, tt)))),
+        (members-place (a .1 .1 .0) (a .1 .1 .1 .0 .now) (a .1 .0) (vs .1) (vs .2) (inv .1) (inv .0) l, members-end (a .1 .1 .0) (a .1 .1 .1 .0 .now) (vs .0) _ (vs .1) (vs .2) (inv .3) l),
+      ),
+    ),
+  ),
+)
 
 pub put-members-spec : {M : Type 1} → statement M
 unfolding Code.routine tablesOf

@@ -25,7 +25,7 @@ use borrow.Rule.Slice.Mut.{setVals, msleft, mslice}
 use borrow.Rule.Slice.Relend.{asShr, asMut, mslice-owed}
 use borrow.Table.Row.{Cx, lease, off, alive, sPtr, sBool}
 use borrow.Table.Rows.{sc-here}
-use Rattle.walk.proofs.Walk.{S, _⨾_, _▸_, _◂_, told, _then_, at, slot, from, set, op2, lit, cp, fld, sc, gone, old, forget, falls, test, while, exits, ret, same, u64}
+use Rattle.walk.proofs.Walk.{S, _⨾_, _▸_, told, _then_, at, slot, from, set, op2, lit, cp, fld, sc, gone, old, forget, falls, test, while, exits, ret, same, u64}
 use Rattle.walk.proofs.Slice.{sh-at, R, kept, full, here, sh-ptr, sh-len, val-at, sh-spares, sh-reads, sh-room, mut-at, mut-is, mut-reads, copy-val, elem-out, part, slice, lend-on, back-on, owed-len}
 use Rattle.walk.proofs.Array.{begin, end, over}
 use Rattle.walk.proofs.Fn.{Callee, Knows, Body, Answers, entry, callee, knows, call, meets}
@@ -123,53 +123,53 @@ body κs qs bs =
     ret tt))
 
 answers : Answers Says.put-storeys K 1 Code.function body
-answers κs qs a good pre bs =
-    ((a .0 .now, a .1 .0, 0, 0), refl, (omega arith, none-before (a .1 .1 .1 .0 .now), omega arith, refl, refl)) ◂ λ vs inv. (
-      tt,
-      (
-        λ taken. told (ltb-true (vs .3) (length (a .1 .1 .1 .0 .now)) taken) λ l. (
-          search needs,
+answers κs qs a good pre bs = (
+  ((a .0 .now, a .1 .0, 0, 0), refl, (omega arith, none-before (a .1 .1 .1 .0 .now), omega arith, refl, refl)),
+  λ vs inv. (
+    tt,
+    (
+      λ taken. told (ltb-true (vs .3) (length (a .1 .1 .1 .0 .now)) taken) λ l. (
+        search needs,
+        (
+          tt,
           (
-            tt,
-            (
-              (refl, refl, omega arith),
-              λ _. (
-                λ _. tt,
-                λ c. told (next-within (a .1 .1 .1 .0 .now) (a .1 .1 .1 .1 .0 .now) (vs .3) (vs .2) (c .1) (inv .1) (c .5) (pre .0)) λ ends. (
-                  omega (arith, ends, pre .1),
-                  λ γ. (
-                    refl,
+            (refl, refl, omega arith),
+            λ _. (
+              λ _. tt,
+              λ c. told (next-within (a .1 .1 .1 .0 .now) (a .1 .1 .1 .1 .0 .now) (vs .3) (vs .2) (c .1) (inv .1) (c .5) (pre .0)) λ ends. (
+                omega (arith, ends, pre .1),
+                λ γ. (
+                  refl,
+                  (
+                    omega (arith, ends, pre .1),
                     (
-                      omega (arith, ends, pre .1),
+                      tt,
                       (
-                        tt,
+                        omega arith,
                         (
-                          omega arith,
-                          (
-                            (refl, refl, omega arith, omega (arith, ends)),
-                            λ p. (
-                              ap (vint w64) (p .1),
-                              (
-                                λ _. storeys-room (a .1 .1 .0) (a .1 .1 .1 .0 .now) (a .1 .1 .1 .1 .0 .now) (vs .0) (a .0 .now) (a .1 .0) (vs .1) (vs .3) (vs .2) (c .1) (pre .2) (inv .2) (inv .3) l ends,
-                                λ g. (
-                                  refl,
-                                  λ back. (
-                                    search needs,
+                          (refl, refl, omega arith, omega (arith, ends)),
+                          λ p. (
+                            ap (vint w64) (p .1),
+                            (
+                              λ _. storeys-room (a .1 .1 .0) (a .1 .1 .1 .0 .now) (a .1 .1 .1 .1 .0 .now) (vs .0) (a .0 .now) (a .1 .0) (vs .1) (vs .3) (vs .2) (c .1) (pre .2) (inv .2) (inv .3) l ends,
+                              λ g. (
+                                refl,
+                                λ back. (
+                                  search needs,
+                                  (
+                                    length (a .1 .1 .1 .0 .now) - (vs .3 + 1),
+                                    omega arith,
                                     (
-                                      length (a .1 .1 .1 .0 .now) - (vs .3 + 1),
-                                      omega arith,
+                                      (g .2 .0, g .1, vs .2 + c .1, vs .3 + 1),
+                                      refl,
                                       (
-                                        (g .2 .0, g .1, vs .2 + c .1, vs .3 + 1),
-                                        refl,
-                                        (
-                                          omega arith,
-                                          next-before (a .1 .1 .1 .0 .now) (a .1 .1 .1 .1 .0 .now) (vs .3) (vs .2) (c .1) (inv .1) (c .5),
-                                          storeys-place (a .1 .1 .0) (a .1 .1 .1 .0 .now) (a .1 .1 .1 .1 .0 .now) (a .1 .0) (vs .1) (g .1) (vs .3) (vs .2) (c .1) (inv .2) (g .5 .0) ends,
-                                          back ∙ inv .3,
-                                          storeys-next (a .1 .1 .0) (a .1 .1 .1 .0 .now) (a .1 .1 .1 .1 .0 .now) (vs .0) _ (g .2 .0) (vs .1) (g .1) (vs .3) (vs .2) (c .1) (inv .4) l (c .5) (g .5 .1) (g .5 .0),
-                                        ),
-                                        refl,
+                                        omega arith,
+                                        next-before (a .1 .1 .1 .0 .now) (a .1 .1 .1 .1 .0 .now) (vs .3) (vs .2) (c .1) (inv .1) (c .5),
+                                        storeys-place (a .1 .1 .0) (a .1 .1 .1 .0 .now) (a .1 .1 .1 .1 .0 .now) (a .1 .0) (vs .1) (g .1) (vs .3) (vs .2) (c .1) (inv .2) (g .5 .0) ends,
+                                        back ∙ inv .3,
+                                        storeys-next (a .1 .1 .0) (a .1 .1 .1 .0 .now) (a .1 .1 .1 .1 .0 .now) (vs .0) _ (g .2 .0) (vs .1) (g .1) (vs .3) (vs .2) (c .1) (inv .4) l (c .5) (g .5 .1) (g .5 .0),
                                       ),
+                                      refl,
                                     ),
                                   ),
                                 ),
@@ -185,15 +185,17 @@ answers κs qs a good pre bs =
             ),
           ),
         ),
-        λ left. told (ltb-false (vs .3) (length (a .1 .1 .1 .0 .now)) left) λ l. (
-          (fix-len (a .0 .ptr) (a .0 .name) (vs .0) (a .0 .now) (inv .3), (tt, (tt, (refl, (refl, tt))))),
-          (
-            all-written (a .1 .1 .0) (a .1 .1 .1 .0 .now) (a .1 .1 .1 .1 .0 .now) (pre .0) (a .1 .0) (vs .1) (vs .2) (vs .3) (inv .0) l (inv .1) (inv .2),
-            storeys-end (a .1 .1 .0) (a .1 .1 .1 .0 .now) (a .1 .1 .1 .1 .0 .now) (vs .0) _ (vs .1) (vs .3) (vs .2) (inv .4) l,
-          ),
+      ),
+      λ left. told (ltb-false (vs .3) (length (a .1 .1 .1 .0 .now)) left) λ l. (
+        (fix-len (a .0 .ptr) (a .0 .name) (vs .0) (a .0 .now) (inv .3), (tt, (tt, (refl, (refl, tt))))),
+        (
+          all-written (a .1 .1 .0) (a .1 .1 .1 .0 .now) (a .1 .1 .1 .1 .0 .now) (pre .0) (a .1 .0) (vs .1) (vs .2) (vs .3) (inv .0) l (inv .1) (inv .2),
+          storeys-end (a .1 .1 .0) (a .1 .1 .1 .0 .now) (a .1 .1 .1 .1 .0 .now) (vs .0) _ (vs .1) (vs .3) (vs .2) (inv .4) l,
         ),
       ),
-    )
+    ),
+  ),
+)
 
 pub put-storeys-spec : {M : Type 1} → statement M
 unfolding Code.routine tablesOf
