@@ -7,9 +7,9 @@ ghost use Rattle.checks.specs.RowChecks.{headerCallFault};
 use records::Header;
 use records::Member;
 use records::Storey;
-use records::ranges::header_fault;
-use records::ranges::member_fault;
-use records::ranges::storey_fault;
+use validity::header_fault;
+use validity::member_fault;
+use validity::storey_fault;
 
 pub(crate) fn number_of(m: Member) -> u64
     ensures { λ r. ⌜ r ≡ m .number ⌝ }

@@ -3,9 +3,9 @@
 ghost use mathlib.Core.Path.{_≡_};
 ghost use Rattle.records.specs.Records.{headerFault, storeyFault, memberFault};
 ghost use Rattle.words.specs.Words.{headerHanded, storeyHanded, memberHanded};
-use records::ranges::header_fault;
-use records::ranges::member_fault;
-use records::ranges::storey_fault;
+use validity::header_fault;
+use validity::member_fault;
+use validity::storey_fault;
 use words::given::header_given;
 use words::given::member_given;
 use words::given::storey_given;

@@ -12,16 +12,16 @@ use crate::cursor::Cursor;
 use crate::cursor::Field;
 use crate::cursor::next_of;
 use crate::cursor::number_of;
+use ranges::range_allows;
+use records::CASE_FIELDS;
+use records::FIELDS_MOST;
+use records::HEADER_FIELDS;
 use records::Kind;
-use records::ranges::CASE_FIELDS;
-use records::ranges::FIELDS_MOST;
-use records::ranges::HEADER_FIELDS;
-use records::ranges::MEMBER_CASES_FIELDS;
-use records::ranges::MEMBER_FIELDS;
-use records::ranges::STOREY_CASES_FIELDS;
-use records::ranges::STOREY_FIELDS;
-use records::ranges::field_count;
-use records::ranges::range_allows;
+use records::MEMBER_CASES_FIELDS;
+use records::MEMBER_FIELDS;
+use records::STOREY_CASES_FIELDS;
+use records::STOREY_FIELDS;
+use records::numbers::field_count;
 
 // How many bytes a line takes: its tag, its fields of 8 columns and LF.
 pub const HEADER_SIZE: usize = 2 + 8 * HEADER_FIELDS;

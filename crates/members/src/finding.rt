@@ -24,9 +24,9 @@ use records::Member;
 use records::MemberCase;
 use records::ZERO_FORCE;
 use records::numbers::in_case;
-use records::ranges::known_form;
-use records::ranges::member_case_fault;
-use records::ranges::member_fault;
+use validity::known_form;
+use validity::member_case_fault;
+use validity::member_fault;
 
 // What a member is found to be in one load case.
 pub struct Finding {

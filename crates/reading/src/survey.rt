@@ -21,7 +21,9 @@ use format::lines::is_framed;
 use format::lines::is_shaped;
 use format::lines::line_length;
 use format::lines::read_fields;
+use ranges::line_in_ranges;
 use records::CASES;
+use records::FIELDS_MOST;
 use records::FOUR_CASES;
 use records::Header;
 use records::Kind;
@@ -36,10 +38,8 @@ use records::numbers::member_of;
 use records::numbers::member_with;
 use records::numbers::storey_kind;
 use records::numbers::storey_of;
-use records::ranges::FIELDS_MOST;
-use records::ranges::header_fault;
-use records::ranges::line_in_ranges;
-use records::ranges::sides_fault;
+use validity::header_fault;
+use validity::sides_fault;
 
 // 8: more members or storeys than the lent rows hold.
 const UNHELD: u64 = 8;

@@ -2,7 +2,6 @@
 
 pub mod first;
 pub mod numbers;
-pub mod ranges;
 
 // What stands for a force of 0 in N_D and N_K.
 pub const ZERO_FORCE: u64 = 20_000_000;
@@ -12,6 +11,22 @@ pub const CASES: usize = 4;
 
 // The form of four load cases; the old form is 1.
 pub const FOUR_CASES: u64 = 2;
+
+// How many fields a line has. The numbers of a line stand in an array that holds those of any.
+pub const HEADER_FIELDS: usize = 6;
+
+pub const STOREY_FIELDS: usize = 3;
+
+pub const MEMBER_FIELDS: usize = 26;
+
+// In the form of four cases: S, M and D.
+pub const STOREY_CASES_FIELDS: usize = 6;
+
+pub const MEMBER_CASES_FIELDS: usize = 18;
+
+pub const CASE_FIELDS: usize = 9;
+
+pub const FIELDS_MOST: usize = MEMBER_FIELDS;
 
 // The B line.
 #[repr(C)]

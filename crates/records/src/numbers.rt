@@ -2,17 +2,23 @@
 ghost use mathlib.Core.Path.{_≡_};
 ghost use Prim.Native.Nat.{ℕ};
 ghost use lib.ListN.{getD};
-ghost use Rattle.records.specs.Records.{storeyKind, memberKind, headerBy, storeyBy, caseBy, memberBy, oldCases, noCase, caseCount, shearOf, withCase, inCase};
+ghost use Rattle.records.specs.Records.{storeyKind, memberKind, fields, headerBy, storeyBy, caseBy, memberBy, oldCases, noCase, caseCount, shearOf, withCase, inCase};
+use crate::CASE_FIELDS;
 use crate::CASES;
+use crate::FIELDS_MOST;
 use crate::FOUR_CASES;
+use crate::HEADER_FIELDS;
 use crate::Header;
 use crate::Kind;
 use crate::LoadCase;
+use crate::MEMBER_CASES_FIELDS;
+use crate::MEMBER_FIELDS;
 use crate::Member;
 use crate::MemberCase;
+use crate::STOREY_CASES_FIELDS;
+use crate::STOREY_FIELDS;
 use crate::Storey;
 use crate::ZERO_FORCE;
-use crate::ranges::FIELDS_MOST;
 
 // How many load cases a form has.
 pub fn case_count(form: u64) -> usize
@@ -41,6 +47,20 @@ pub fn member_kind(form: u64) -> Kind
         return Kind::M4;
     }
     Kind::M
+}
+
+// How many fields a line has.
+pub fn field_count(kind: Kind) -> usize
+    ensures { λ r. ⌜ r ≡ fields kind ⌝ }
+{
+    match kind {
+        Kind::B => HEADER_FIELDS,
+        Kind::S => STOREY_FIELDS,
+        Kind::M => MEMBER_FIELDS,
+        Kind::S4 => STOREY_CASES_FIELDS,
+        Kind::M4 => MEMBER_CASES_FIELDS,
+        Kind::D => CASE_FIELDS,
+    }
 }
 
 pub fn header_of(form: u64, vs: [u64; FIELDS_MOST]) -> Header
@@ -158,6 +178,13 @@ pub fn member_of(vs: [u64; FIELDS_MOST]) -> Member
     member_with(vs, [case, none, none, none])
 }
 
+// The form of a survey.
+pub fn form_of(h: Header) -> u64
+    ensures { λ r. ⌜ r ≡ h .form ⌝ }
+{
+    h.form
+}
+
 // How many members a storey has.
 pub fn count_of(r: Storey) -> usize
     ensures { λ n. ⌜ n ≡ r .count ⌝ }
@@ -175,19 +202,31 @@ pub fn shear_of(s: Storey, c: usize) -> u64
     s.shears[c]
 }
 
-// A member in case c, counted from 0; past the cases in one that holds 0.
+// A member in case c, counted from 0; past the cases in one that holds 0. Each case stands at a place that is known, so that no case is copied but the one asked for.
 pub fn in_case(m: Member, c: usize) -> MemberCase
     ensures { λ r. ⌜ r ≡ inCase c m ⌝ }
 {
-    if CASES <= c {
-        let none = no_case();
-        return with_case(m, none);
+    if c == 0 {
+        let case = m.cases[0];
+        return with_case(m, case);
     }
-    let case = m.cases[c];
-    with_case(m, case)
+    if c == 1 {
+        let case = m.cases[1];
+        return with_case(m, case);
+    }
+    if c == 2 {
+        let case = m.cases[2];
+        return with_case(m, case);
+    }
+    if c == 3 {
+        let case = m.cases[3];
+        return with_case(m, case);
+    }
+    let none = no_case();
+    with_case(m, none)
 }
 
-pub(crate) fn with_case(m: Member, case: LoadCase) -> MemberCase
+pub fn with_case(m: Member, case: LoadCase) -> MemberCase
     ensures { λ r. ⌜ r ≡ withCase m case ⌝ }
 {
     MemberCase {

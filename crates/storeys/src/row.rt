@@ -26,8 +26,8 @@ use records::Member;
 use records::MemberCase;
 use records::Storey;
 use records::numbers::in_case;
-use records::ranges::known_form;
-use records::ranges::storey_fault;
+use validity::known_form;
+use validity::storey_fault;
 
 // The most members of a storey.
 const MEMBERS_MOST: u64 = 200;

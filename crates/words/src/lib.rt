@@ -12,7 +12,7 @@ ghost use Rattle.records.specs.declared.Kind.the-variants.{M};
 ghost use Rattle.words.specs.Words.{handed};
 ghost use Rattle.columns.specs.Line.{atFront};
 ghost use Rattle.columns.specs.Bytes.{stamped};
-use records::ranges::FIELDS_MOST;
+use records::FIELDS_MOST;
 
 // What stands for a number that is not given.
 const MISSING: u64 = 18_446_744_073_709_551_615;
