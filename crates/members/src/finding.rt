@@ -117,10 +117,9 @@ fn ratios(m: MemberCase) -> Ratios
     requires { ⌜ Valid m ⌝ }
     ensures { λ r. ⌜ r ≡ ratios m ⌝ }
 {
-    let c = m.case;
     Ratios {
-        n: axial(c.nk, m.fcm, m.area),
-        v: wall_stress(c.ve, m.short, m.depth, m.fctm),
+        n: axial(m.case.nk, m.fcm, m.area),
+        v: wall_stress(m.case.ve, m.short, m.depth, m.fctm),
         rho: hoop_ratio(m.hoops, m.spacing, m.core),
     }
 }
@@ -166,12 +165,11 @@ fn judge(s: LimitSet, k: u64, met: bool, m: MemberCase) -> Finding
     requires { ⌜ SizedSet s × (1 ≤ k) × (k ≤ 100) × Valid m ⌝ }
     ensures { λ r. ⌜ r ≡ findingBy s k met m ⌝ }
 {
-    let c = m.case;
     let class = class_of(k, m);
     let at = ratios(m);
-    let ratio = moment_ratio(k, c.me, c.mp);
+    let ratio = moment_ratio(k, m.case.me, m.case.mp);
     let m_limit = m_limit(s, class, m.zone, m.strengthened, at);
-    let rotation = Microradians::steps(c.rotation, 1);
+    let rotation = Microradians::steps(m.case.rotation, 1);
     let rotation_limit = rotation_limit(s, class, m.zone, m.strengthened, m.factor, at);
     let dropped = m_dropped(k, met, m);
     let by_m = over_m(dropped, ratio, m_limit);
