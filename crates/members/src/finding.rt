@@ -2,7 +2,7 @@
 ghost use mathlib.Core.Path.{_≡_};
 ghost use Prim.Native.Nat.{_≤_, _<_};
 ghost use Rattle.records.specs.Valid.{Valid};
-ghost use mathlib.Core.Bool.{true, _||_};
+ghost use mathlib.Core.Bool.{true};
 ghost use Rattle.records.specs.Records.{memberFault, inCase, caseCount};
 ghost use Rattle.members.specs.Finding.{flag, compression, axial, moment, stress, hoops, mDropped, overM, findingBy, finding, findingsBy, knowledge, returnedCase, caseReturned, returned, memberReturned};
 ghost use Rattle.members.specs.Tables.{published};
@@ -145,19 +145,7 @@ fn m_dropped(k: u64, met: bool, m: MemberCase) -> bool
 fn over_m(dropped: bool, m: Ratio, limit: Ratio) -> bool
     ensures { λ r. ⌜ r ≡ overM dropped (m .0) (limit .0) ⌝ }
 {
-    if dropped {
-        return false;
-    }
-    limit.0 < m.0
-}
-
-fn either(a: bool, b: bool) -> bool
-    ensures { λ r. ⌜ r ≡ (a || b) ⌝ }
-{
-    if a {
-        return true;
-    }
-    b
+    !dropped & (limit.0 < m.0)
 }
 
 // A member by a set of limits.
@@ -180,7 +168,7 @@ fn judge(s: LimitSet, k: u64, met: bool, m: MemberCase) -> Finding
         m_limit,
         rotation,
         rotation_limit,
-        over: either(by_m, by_rotation),
+        over: by_m | by_rotation,
         nd: axial(m.nd, m.fcm, m.area),
         m_dropped: dropped,
         over_m: by_m,

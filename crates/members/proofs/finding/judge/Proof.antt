@@ -1,5 +1,5 @@
 use native.Mathlib.Omega.{arith}
-use mathlib.Core.Path.{_∙_}
+use mathlib.Core.Path.{_∙_, refl}
 use Rattle.members.proofs.Assembly.{assembled}
 use Rattle.members.proofs.Rounding.{below-cap, whole}
 use Rattle.members.proofs.finding.judge.Statement.{statement}
@@ -35,29 +35,26 @@ m-dropped-requires c κs =
 over-m-requires : tie.Need-over-m-requires
 over-m-requires c κs = tt
 
-either-requires : tie.Need-either-requires
-either-requires c κs = tt
-
 axial-requires : tie.Need-axial-requires
 axial-requires c κs =
-    let v = c .before .before .before .before .before .before .before .before .before .before .before .pre .3 in
+    let v = c .before .before .before .before .before .before .before .before .before .before .pre .3 in
     (v .nd, v .fcm-least, v .fcm, v .area-least, v .area)
 
 returns : tie.Need-returns
 returns c =
-    let b = c .before .before .before .before .before .before .before .before .before .before .before .before in
+    let b = c .before .before .before .before .before .before .before .before .before .before .before in
     let a = b .args in
     let r = a .m .case .rotation in
     assembled (a .s) (a .k) (a .met) (a .m)
-    (c .before .before .before .before .before .before .before .before .before .before .before .class-of .ensures)
-    (c .before .before .before .before .before .before .before .before .before .before .ratios .ensures)
-    (c .before .before .before .before .before .before .before .before .before .moment-ratio .ensures)
-    (c .before .before .before .before .before .before .before .steps .ensures ∙ below-cap r 1 (omega arith) (omega (arith, b .pre .3 .rotation)) ∙ whole r)
-    (c .before .before .before .before .before .before .before .before .m-limit .ensures)
-    (c .before .before .before .before .before .before .rotation-limit .ensures)
-    (c .before .before .before .before .before .m-dropped .ensures)
-    (c .before .before .before .before .over-m .ensures)
-    (c .before .either .ensures)
+    (c .before .before .before .before .before .before .before .before .before .before .class-of .ensures)
+    (c .before .before .before .before .before .before .before .before .before .ratios .ensures)
+    (c .before .before .before .before .before .before .before .before .moment-ratio .ensures)
+    (c .before .before .before .before .before .before .steps .ensures ∙ below-cap r 1 (omega arith) (omega (arith, b .pre .3 .rotation)) ∙ whole r)
+    (c .before .before .before .before .before .before .before .m-limit .ensures)
+    (c .before .before .before .before .before .rotation-limit .ensures)
+    (c .before .before .before .before .m-dropped .ensures)
+    (c .before .before .before .over-m .ensures)
+    refl
     (c .axial .ensures)
 
 pub judge-spec : {M : Type 1} → statement M
@@ -72,6 +69,5 @@ judge-spec =
     rotation-limit-requires
     m-dropped-requires
     over-m-requires
-    either-requires
     axial-requires
     returns)

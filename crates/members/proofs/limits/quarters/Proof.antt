@@ -10,25 +10,25 @@ at : (c : tie.Start) {k : Class} → c .args .class ≡ k → quarters (c .args 
 at c e = ap (λ (k : Class). quarters k (c .args .strengthened)) e
 
 enum-told : tie.Need-enum-told
-enum-told c = search needs
+enum-told c = c .match .keys1
 
 cut-quarters-requires : tie.Need-cut-quarters-requires
-cut-quarters-requires c κs = search needs
+cut-quarters-requires c κs = tt
 
 enum-told-2 : tie.Need-enum-told-2
-enum-told-2 c = search needs
+enum-told-2 c = c .match .keys2
 
 cut-quarters-requires-2 : tie.Need-cut-quarters-requires-2
-cut-quarters-requires-2 c κs = search needs
+cut-quarters-requires-2 c κs = tt
 
 enum-told-3 : tie.Need-enum-told-3
-enum-told-3 c = search needs
+enum-told-3 c = c .match .keys3
 
 enum-told-4 : tie.Need-enum-told-4
-enum-told-4 c = search needs
+enum-told-4 c = c .match .keys4
 
 enum-told-5 : tie.Need-enum-told-5
-enum-told-5 c = search needs
+enum-told-5 c = c .match .keys5
 
 returns : tie.Need-returns
 returns c = c .cut-quarters .ensures ∙ sym (at (c .before .before .before) (c .before .enum-told .given .1))
