@@ -49,12 +49,18 @@ fn over_two(a: Row, b: Row, x: u64) -> Fraction
     ensures { λ r. ⌜ (r ≡ interp a (b ∷ []) x) × (r .den ≤ 200_000) ⌝ }
 {
     if x <= a.at {
-        return Fraction { num: a.limit, den: 1 };
+        return Fraction {
+            num: a.limit,
+            den: 1,
+        };
     }
     if x <= b.at {
         return segment(a, b, x);
     }
-    Fraction { num: b.limit, den: 1 }
+    Fraction {
+        num: b.limit,
+        den: 1,
+    }
 }
 
 // Over four rows.
@@ -63,7 +69,10 @@ fn over_four(a: Row, b: Row, c: Row, d: Row, x: u64) -> Fraction
     ensures { λ r. ⌜ (r ≡ interp a (b ∷ c ∷ d ∷ []) x) × (r .den ≤ 200_000) ⌝ }
 {
     if x <= a.at {
-        return Fraction { num: a.limit, den: 1 };
+        return Fraction {
+            num: a.limit,
+            den: 1,
+        };
     }
     if x <= b.at {
         return segment(a, b, x);

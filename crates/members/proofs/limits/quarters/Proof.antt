@@ -1,7 +1,6 @@
 use mathlib.Core.Path.{_≡_, _∙_, sym, ap}
 use Rattle.members.specs.declared.class.Class.{Class}
 use Rattle.members.specs.Limits.{quarters}
-use borrow.Author.Needs.{needs}
 use Rattle.members.proofs.limits.quarters.Statement.{statement}
 use Rattle.members.proofs.limits.quarters.Tie as tie
 
@@ -37,13 +36,13 @@ returns-2 : tie.Need-returns-2
 returns-2 c = c .cut-quarters2 .ensures ∙ sym (at (c .before .before .before) (c .before .enum-told2 .given .1))
 
 returns-3 : tie.Need-returns-3
-returns-3 c = search needs
+returns-3 c = sym (at (c .before .before) (c .enum-told3 .given .1))
 
 returns-4 : tie.Need-returns-4
-returns-4 c = search needs
+returns-4 c = sym (at (c .before .before) (c .enum-told4 .given .1))
 
 returns-5 : tie.Need-returns-5
-returns-5 c = search needs
+returns-5 c = sym (at (c .before .before) (c .enum-told5 .given .1))
 
 pub quarters-spec : {M : Type 1} → statement M
 quarters-spec =
