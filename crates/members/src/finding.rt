@@ -2,7 +2,7 @@
 ghost use mathlib.Core.Path.{_≡_};
 ghost use Prim.Native.Nat.{_≤_, _<_};
 ghost use Rattle.records.specs.Valid.{Valid};
-ghost use mathlib.Core.Bool.{true, _||_};
+ghost use mathlib.Core.Bool.{true};
 ghost use Rattle.records.specs.Records.{memberFault, inCase, caseCount};
 ghost use Rattle.members.specs.Finding.{flag, compression, axial, moment, stress, hoops, mDropped, overM, findingBy, finding, findingsBy, knowledge, returnedCase, caseReturned, returned, memberReturned};
 ghost use Rattle.members.specs.Tables.{published};
@@ -117,10 +117,9 @@ fn ratios(m: MemberCase) -> Ratios
     requires { ⌜ Valid m ⌝ }
     ensures { λ r. ⌜ r ≡ ratios m ⌝ }
 {
-    let c = m.case;
     Ratios {
-        n: axial(c.nk, m.fcm, m.area),
-        v: wall_stress(c.ve, m.short, m.depth, m.fctm),
+        n: axial(m.case.nk, m.fcm, m.area),
+        v: wall_stress(m.case.ve, m.short, m.depth, m.fctm),
         rho: hoop_ratio(m.hoops, m.spacing, m.core),
     }
 }
@@ -146,19 +145,7 @@ fn m_dropped(k: u64, met: bool, m: MemberCase) -> bool
 fn over_m(dropped: bool, m: Ratio, limit: Ratio) -> bool
     ensures { λ r. ⌜ r ≡ overM dropped (m .0) (limit .0) ⌝ }
 {
-    if dropped {
-        return false;
-    }
-    limit.0 < m.0
-}
-
-fn either(a: bool, b: bool) -> bool
-    ensures { λ r. ⌜ r ≡ (a || b) ⌝ }
-{
-    if a {
-        return true;
-    }
-    b
+    !dropped & (limit.0 < m.0)
 }
 
 // A member by a set of limits.
@@ -166,12 +153,11 @@ fn judge(s: LimitSet, k: u64, met: bool, m: MemberCase) -> Finding
     requires { ⌜ SizedSet s × (1 ≤ k) × (k ≤ 100) × Valid m ⌝ }
     ensures { λ r. ⌜ r ≡ findingBy s k met m ⌝ }
 {
-    let c = m.case;
     let class = class_of(k, m);
     let at = ratios(m);
-    let ratio = moment_ratio(k, c.me, c.mp);
+    let ratio = moment_ratio(k, m.case.me, m.case.mp);
     let m_limit = m_limit(s, class, m.zone, m.strengthened, at);
-    let rotation = Microradians::steps(c.rotation, 1);
+    let rotation = Microradians::steps(m.case.rotation, 1);
     let rotation_limit = rotation_limit(s, class, m.zone, m.strengthened, m.factor, at);
     let dropped = m_dropped(k, met, m);
     let by_m = over_m(dropped, ratio, m_limit);
@@ -182,7 +168,7 @@ fn judge(s: LimitSet, k: u64, met: bool, m: MemberCase) -> Finding
         m_limit,
         rotation,
         rotation_limit,
-        over: either(by_m, by_rotation),
+        over: by_m | by_rotation,
         nd: axial(m.nd, m.fcm, m.area),
         m_dropped: dropped,
         over_m: by_m,

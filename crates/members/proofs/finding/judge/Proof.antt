@@ -1,58 +1,60 @@
 use native.Mathlib.Omega.{arith}
-use mathlib.Core.Path.{_∙_}
+use mathlib.Core.Path.{_∙_, refl}
 use Rattle.members.proofs.Assembly.{assembled}
 use Rattle.members.proofs.Rounding.{below-cap, whole}
-use borrow.Author.Needs.{needs}
 use Rattle.members.proofs.finding.judge.Statement.{statement}
 use Rattle.members.proofs.finding.judge.Tie as tie
 
 class-of-requires : tie.Need-class-of-requires
-class-of-requires c κs = search needs
+class-of-requires c κs = (c .pre .2, c .pre .3)
 
 ratios-requires : tie.Need-ratios-requires
-ratios-requires c κs = search needs
+ratios-requires c κs = c .before .pre .3
 
 moment-ratio-requires : tie.Need-moment-ratio-requires
-moment-ratio-requires c κs = search needs
+moment-ratio-requires c κs =
+    let p = c .before .before .pre in
+    (p .1, p .2, p .3 .me, p .3 .mp-least, p .3 .mp)
 
 m-limit-requires : tie.Need-m-limit-requires
-m-limit-requires c κs = search needs
+m-limit-requires c κs = c .before .before .before .pre .0
 
 steps-requires : tie.Need-steps-requires
-steps-requires c κs = search needs
+steps-requires c κs = omega arith
 
 rotation-limit-requires : tie.Need-rotation-limit-requires
-rotation-limit-requires c κs = search needs
+rotation-limit-requires c κs =
+    let p = c .before .before .before .before .before .pre in
+    (p .0, p .3 .factor)
 
 m-dropped-requires : tie.Need-m-dropped-requires
-m-dropped-requires c κs = search needs
+m-dropped-requires c κs =
+    let p = c .before .before .before .before .before .before .pre in
+    (p .2, p .3)
 
 over-m-requires : tie.Need-over-m-requires
-over-m-requires c κs = search needs
-
-either-requires : tie.Need-either-requires
-either-requires c κs = search needs
+over-m-requires c κs = tt
 
 axial-requires : tie.Need-axial-requires
 axial-requires c κs =
-    let v = c .before .before .before .before .before .before .before .before .before .before .before .before .pre .3 in
+    let v = c .before .before .before .before .before .before .before .before .before .before .pre .3 in
     (v .nd, v .fcm-least, v .fcm, v .area-least, v .area)
 
 returns : tie.Need-returns
 returns c =
-    let b = c .before .before .before .before .before .before .before .before .before .before .before .before .before in
+    let b = c .before .before .before .before .before .before .before .before .before .before .before in
     let a = b .args in
     let r = a .m .case .rotation in
     assembled (a .s) (a .k) (a .met) (a .m)
-    (c .before .before .before .before .before .before .before .before .before .before .before .class-of .ensures)
-    (c .before .before .before .before .before .before .before .before .before .before .ratios .ensures)
-    (c .before .before .before .before .before .before .before .before .before .moment-ratio .ensures)
-    (c .before .before .before .before .before .before .before .steps .ensures ∙ below-cap r 1 (omega arith) (omega (arith, b .pre .3 .rotation)) ∙ whole r)
-    (c .before .before .before .before .before .before .before .before .m-limit .ensures)
-    (c .before .before .before .before .before .before .rotation-limit .ensures)
-    (c .before .before .before .before .before .m-dropped .ensures)
-    (c .before .before .before .before .over-m .ensures)
-    (c .before .either .ensures)
+    (c .before .before .before .before .before .before .before .before .before .before .class-of .ensures)
+    (c .before .before .before .before .before .before .before .before .before .ratios .ensures)
+    (c .before .before .before .before .before .before .before .before .moment-ratio .ensures)
+    (c .before .before .before .before .before .before .steps .ensures ∙ below-cap r 1 (omega arith) (omega (arith, b .pre .3 .rotation)) ∙ whole r)
+    (c .before .before .before .before .before .before .before .m-limit .ensures)
+    (c .before .before .before .before .before .rotation-limit .ensures)
+    (c .before .before .before .before .m-dropped .ensures)
+    (c .before .before .before .over-m .ensures)
+    refl
     (c .axial .ensures)
 
 pub judge-spec : {M : Type 1} → statement M
@@ -67,6 +69,5 @@ judge-spec =
     rotation-limit-requires
     m-dropped-requires
     over-m-requires
-    either-requires
     axial-requires
     returns)

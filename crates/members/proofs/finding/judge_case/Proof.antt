@@ -9,12 +9,11 @@ use Rattle.members.specs.declared.finding.CaseAnswer.the-variants.{Judge
 use Rattle.members.specs.Tables.{published}
 use Rattle.members.specs.Finding.{finding, knowledge, caseAnswerBy, returnedCase, refused}
 use Rattle.members.proofs.Assembly.{case-answer-good, level-sized, published-sized}
-use borrow.Author.Needs.{needs}
 use Rattle.members.proofs.finding.judge_case.Statement.{statement}
 use Rattle.members.proofs.finding.judge_case.Tie as tie
 
 known-requires : tie.Need-known-requires
-known-requires c κs = search needs
+known-requires c κs = tt
 
 returns : tie.Need-returns
 unfolding caseAnswerBy
@@ -23,7 +22,7 @@ returns c =
     simp e
 
 member-case-fault-requires : tie.Need-member-case-fault-requires
-member-case-fault-requires c κs = search needs
+member-case-fault-requires c κs = tt
 
 returns-2 : tie.Need-returns-2
 unfolding caseAnswerBy
@@ -33,7 +32,7 @@ returns-2 c =
     simp (e, g) (ap refused (c .before .member-case-fault .ensures))
 
 published-requires : tie.Need-published-requires
-published-requires c κs = search needs
+published-requires c κs = tt
 
 judge-requires : tie.Need-judge-requires
 judge-requires c κs =

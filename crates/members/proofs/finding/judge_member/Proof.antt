@@ -11,12 +11,11 @@ use Rattle.members.specs.declared.finding.MemberAnswer.the-variants.{Jud
 use Rattle.members.specs.Tables.{published}
 use Rattle.members.specs.Finding.{finding, findingsBy, knowledge, judgedBy, answerBy, returned, refused}
 use Rattle.members.proofs.Assembly.{answer-good}
-use borrow.Author.Needs.{needs}
 use Rattle.members.proofs.finding.judge_member.Statement.{statement}
 use Rattle.members.proofs.finding.judge_member.Tie as tie
 
 known-requires : tie.Need-known-requires
-known-requires c κs = search needs
+known-requires c κs = tt
 
 returns : tie.Need-returns
 unfolding answerBy
@@ -25,7 +24,7 @@ returns c =
     simp e
 
 known-form-requires : tie.Need-known-form-requires
-known-form-requires c κs = search needs
+known-form-requires c κs = tt
 
 returns-2 : tie.Need-returns-2
 unfolding answerBy
@@ -36,7 +35,7 @@ returns-2 c =
     simp (e, g)
 
 member-fault-requires : tie.Need-member-fault-requires
-member-fault-requires c κs = search needs
+member-fault-requires c κs = tt
 
 returns-3 : tie.Need-returns-3
 unfolding answerBy

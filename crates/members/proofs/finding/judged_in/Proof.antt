@@ -1,15 +1,14 @@
 use Rattle.records.specs.Records.{inCase}
 use Rattle.records.proofs.Validity.{valid, case-good}
 use Rattle.members.proofs.Assembly.{level-sized, published-sized}
-use borrow.Author.Needs.{needs}
 use Rattle.members.proofs.finding.judged_in.Statement.{statement}
 use Rattle.members.proofs.finding.judged_in.Tie as tie
 
 published-requires : tie.Need-published-requires
-published-requires c κs = search needs
+published-requires c κs = tt
 
 in-case-requires : tie.Need-in-case-requires
-in-case-requires c κs = search needs
+in-case-requires c κs = tt
 
 judge-requires : tie.Need-judge-requires
 judge-requires c κs =

@@ -1,14 +1,14 @@
+use mathlib.Core.Path.{_∙_}
 use Rattle.members.specs.Limits.{mLimitAt}
 use Rattle.members.proofs.Means.{exact-mean, quarters-most}
-use borrow.Author.Needs.{needs}
 use Rattle.members.proofs.limits.m_limit.Statement.{statement}
 use Rattle.members.proofs.limits.m_limit.Tie as tie
 
 exact-requires : tie.Need-exact-requires
-exact-requires c κs = search needs
+exact-requires c κs = (c .pre .places, c .pre .m)
 
 quarters-requires : tie.Need-quarters-requires
-quarters-requires c κs = search needs
+quarters-requires c κs = tt
 
 round-m-requires : tie.Need-round-m-requires
 round-m-requires c κs =
@@ -19,7 +19,7 @@ round-m-requires c κs =
 
 returns : tie.Need-returns
 unfolding mLimitAt
-returns c = cc
+returns c = c .round-m .ensures ∙ rw (c .before .before .exact .ensures, c .before .quarters .ensures)
 
 pub m-limit-spec : {M : Type 1} → statement M
 m-limit-spec = tie.close (tie.spec exact-requires quarters-requires round-m-requires returns)

@@ -1,14 +1,15 @@
+use mathlib.Core.Path.{_∙_}
+use native.Mathlib.Omega.{arith}
 use Rattle.members.specs.Limits.{rotationLimitAt}
-use Rattle.members.proofs.Means.{exact-mean, quarters-most}
-use borrow.Author.Needs.{needs}
+use Rattle.members.proofs.Means.{raised, exact-mean, quarters-most}
 use Rattle.members.proofs.limits.rotation_limit.Statement.{statement}
 use Rattle.members.proofs.limits.rotation_limit.Tie as tie
 
 exact-requires : tie.Need-exact-requires
-exact-requires c κs = search needs
+exact-requires c κs = (c .pre .0 .places, raised (omega arith) (c .pre .0 .rotation))
 
 quarters-requires : tie.Need-quarters-requires
-quarters-requires c κs = search needs
+quarters-requires c κs = tt
 
 round-rotation-requires : tie.Need-round-rotation-requires
 round-rotation-requires c κs =
@@ -20,7 +21,7 @@ round-rotation-requires c κs =
 
 returns : tie.Need-returns
 unfolding rotationLimitAt
-returns c = cc
+returns c = c .round-rotation .ensures ∙ rw (c .before .before .exact .ensures, c .before .quarters .ensures)
 
 pub rotation-limit-spec : {M : Type 1} → statement M
 rotation-limit-spec =
