@@ -18,7 +18,7 @@ use Rattle.records.specs.Records.{surveyOf}
 use Rattle.storeys.specs.Storey.{storeyReturned}
 use Rattle.report.specs.Sheet.{reportReturned, bufferAfter}
 use Rattle.writing.specs.Writing.{fileReturned, fileAfter}
-use Rattle.words.specs.Words.{headerHanded, storeyHanded}
+use Rattle.handed.specs.Handed.{headerHanded, storeyHanded}
 use Rattle.exports.specs.Calls.{readingCount, storeyCount, reportCount, fileCount, ifRoom, given, outAfter, readingReturned, BuildingGiven}
 
 abbrev pub bytes : RattleType

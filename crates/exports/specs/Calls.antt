@@ -8,7 +8,7 @@ use Rattle.records.specs.Notation.{pick}
 use mathlib.Core.Bool.{Bool}
 use Rattle.members.specs.Finding.{Returned}
 use Rattle.members.specs.declared.finding.Met.{Met}
-use Rattle.words.specs.Words.{packed}
+use Rattle.answers.specs.Packing.{packed}
 use Rattle.reading.specs.Answer.{Told, filled, refusal}
 use Rattle.records.specs.Records.{Survey}
 use Rattle.storeys.specs.declared.BuildingAnswer.{BuildingAnswer}

@@ -3,21 +3,21 @@ ghost use mathlib.Core.Path.{_≡_};
 ghost use Rattle.records.specs.Records.{surveyOf};
 ghost use Rattle.storeys.specs.Storey.{storeyReturned};
 ghost use Rattle.members.specs.Finding.{memberReturned};
-ghost use Rattle.words.specs.Words.{headerHanded, storeyHanded, memberHanded};
+ghost use Rattle.handed.specs.Handed.{headerHanded, storeyHanded, memberHanded};
 ghost use Rattle.exports.specs.Calls.{memberCount, storeyCount, metBy, given, outAfter, BuildingGiven};
 use crate::SHORT;
+use answers::survey::put_building;
+use answers::survey::put_member;
+use answers::survey::put_storey;
+use handed::header_given;
+use handed::member_given;
+use handed::storey_given;
 use members::finding::Met;
 use members::finding::judge_member;
 use records::Member;
 use records::Storey;
 use storeys::building::judge_building;
 use storeys::storey::judge_storey;
-use words::answers::put_building;
-use words::answers::put_member;
-use words::answers::put_storey;
-use words::given::header_given;
-use words::given::member_given;
-use words::given::storey_given;
 
 // Of four cases; the old form has fewer values.
 const MEMBER_COUNT: usize = 40;

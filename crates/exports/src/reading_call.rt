@@ -4,15 +4,15 @@ ghost use Prim.Native.Nat.{_≤_};
 ghost use lib.ListN.{length};
 ghost use Rattle.reading.specs.Survey.{survey};
 ghost use Rattle.reading.specs.Answer.{tells, told, storeysAfter, membersAfter};
-ghost use Rattle.words.specs.Words.{packing, packed};
+ghost use Rattle.answers.specs.Packing.{packing, packed};
 ghost use Rattle.exports.specs.Calls.{readingCount, ifRoom, given, outAfter, readingReturned};
 ghost use Rattle.columns.specs.Line.{atFront};
 use crate::SHORT;
+use answers::put_words;
 use reading::survey::ReadAnswer;
 use reading::survey::Reading;
 use records::Member;
 use records::Storey;
-use words::put_words;
 
 const READING_COUNT: usize = 9;
 

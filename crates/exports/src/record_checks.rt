@@ -2,13 +2,13 @@
 // where there is none. A storey's and a member's go by the form.
 ghost use mathlib.Core.Path.{_≡_};
 ghost use Rattle.records.specs.Records.{headerFault, storeyFault, memberFault};
-ghost use Rattle.words.specs.Words.{headerHanded, storeyHanded, memberHanded};
+ghost use Rattle.handed.specs.Handed.{headerHanded, storeyHanded, memberHanded};
+use handed::header_given;
+use handed::member_given;
+use handed::storey_given;
 use validity::header_fault;
 use validity::member_fault;
 use validity::storey_fault;
-use words::given::header_given;
-use words::given::member_given;
-use words::given::storey_given;
 
 #[no_mangle]
 pub extern "C" fn llunareth_header_fault(values: &[u64]) -> u64

@@ -5,15 +5,15 @@ ghost use Rattle.records.specs.Records.{surveyOf};
 ghost use Rattle.columns.specs.Line.{atFront, putLength};
 ghost use Rattle.report.specs.Sheet.{reportReturned, bufferAfter};
 ghost use Rattle.determination.specs.Determination.{printed};
-ghost use Rattle.words.specs.Words.{headerHanded};
+ghost use Rattle.handed.specs.Handed.{headerHanded};
 ghost use Rattle.exports.specs.Calls.{reportCount, ifRoom, given, outAfter};
 use crate::SHORT;
+use answers::survey::put_report;
 use determination::determine;
+use handed::header_given;
 use records::Member;
 use records::Storey;
 use report::sheet::write_report;
-use words::answers::put_report;
-use words::given::header_given;
 
 const REPORT_COUNT: usize = 1;
 

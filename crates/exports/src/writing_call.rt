@@ -2,14 +2,14 @@
 ghost use mathlib.Core.Path.{_≡_};
 ghost use lib.ListN.{length};
 ghost use Rattle.records.specs.Records.{surveyOf};
-ghost use Rattle.words.specs.Words.{headerHanded};
+ghost use Rattle.handed.specs.Handed.{headerHanded};
 ghost use Rattle.writing.specs.Writing.{fileReturned, fileAfter};
 ghost use Rattle.exports.specs.Calls.{fileCount, ifRoom, given, outAfter};
 use crate::SHORT;
+use answers::survey::put_file;
+use handed::header_given;
 use records::Member;
 use records::Storey;
-use words::answers::put_file;
-use words::given::header_given;
 use writing::file::write_file;
 
 const FILE_COUNT: usize = 1;

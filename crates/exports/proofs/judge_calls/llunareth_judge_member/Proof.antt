@@ -1,7 +1,8 @@
 use mathlib.Core.Path.{ap, _∙_}
 use Rattle.members.specs.Finding.{Returned, memberReturned}
 use Rattle.columns.specs.Line.{atFront}
-use Rattle.words.specs.Words.{memberHanded, packed}
+use Rattle.handed.specs.Handed.{memberHanded}
+use Rattle.answers.specs.Packing.{packed}
 use Rattle.exports.specs.Calls.{memberCount, metBy}
 use Rattle.exports.proofs.Room.{put, not-put}
 use borrow.Author.Needs.{needs}

@@ -22,23 +22,24 @@ use lib.ListN.{length}
 use Rattle.records.specs.declared.Storey.{Storey}
 use Rattle.storeys.specs.Storey.{storeyReturned}
 use Rattle.members.specs.Finding.{Returned}
-use Rattle.words.specs.Words.{storeyHanded, packed}
+use Rattle.handed.specs.Handed.{storeyHanded}
+use Rattle.answers.specs.Packing.{packed}
 use Rattle.exports.specs.Calls.{storeyCount}
 use Rattle.exports.proofs.Room.{put, not-put}
 use Rattle.columns.specs.Line.{atFront}
 use Rattle.exports.proofs.Says as Says
 use Rattle.exports.proofs.Says.{words}
-use Rattle.words.proofs.given.storey_given.Met as storey-given-met
-use Rattle.words.proofs.given.storey_given.Symbol as storey-given-symbol
-use Rattle.words.proofs.given.storey_given.Kinds as storey-given-kinds
-use Rattle.words.proofs.given.storey_given.Reads as storey-given-reads
+use Rattle.handed.proofs.storey_given.Met as storey-given-met
+use Rattle.handed.proofs.storey_given.Symbol as storey-given-symbol
+use Rattle.handed.proofs.storey_given.Kinds as storey-given-kinds
+use Rattle.handed.proofs.storey_given.Reads as storey-given-reads
 use Rattle.storeys.proofs.storey.judge_storey.Met as judge-storey-met
 use Rattle.storeys.proofs.storey.judge_storey.Symbol as judge-storey-symbol
 use Rattle.storeys.proofs.Says as storeys-Says
-use Rattle.words.proofs.answers.put_storey.Met as put-storey-met
-use Rattle.words.proofs.answers.put_storey.Symbol as put-storey-symbol
-use Rattle.words.proofs.answers.put_storey.Kinds as put-storey-kinds
-use Rattle.words.proofs.answers.put_storey.Reads as put-storey-reads
+use Rattle.answers.proofs.survey.put_storey.Met as put-storey-met
+use Rattle.answers.proofs.survey.put_storey.Symbol as put-storey-symbol
+use Rattle.answers.proofs.survey.put_storey.Kinds as put-storey-kinds
+use Rattle.answers.proofs.survey.put_storey.Reads as put-storey-reads
 use Rattle.exports.proofs.judge_calls.llunareth_judge_storey.Code
 use Rattle.exports.proofs.judge_calls.llunareth_judge_storey.Key
 use Rattle.exports.proofs.judge_calls.llunareth_judge_storey.Statement.{statement}
@@ -126,7 +127,7 @@ pub llunareth-judge-storey-spec : {M : Type 1} → statement M
 unfolding Code.routine tablesOf
 llunareth-judge-storey-spec {M} 𝓤 H 𝓜 𝓖 𝓡 = let w : World = record { M = M; 𝓤 = 𝓤; H = H; 𝓜 = 𝓜; 𝓖 = 𝓖; 𝓡 = 𝓡 } in
     meets Says.llunareth-judge-storey K 1 Code.function body answers w Code.env Key.name (Code.unfolded 𝓤 H 𝓜 𝓡) (
-      storey-given-reads.known w Code.env storey-given-symbol.name storey-given-symbol.routine Code.calls-words·given·storey-given (storey-given-met.met 𝓤 H 𝓜 𝓖 𝓡),
+      storey-given-reads.known w Code.env storey-given-symbol.name storey-given-symbol.routine Code.calls-handed·storey-given (storey-given-met.met 𝓤 H 𝓜 𝓖 𝓡),
       knows storeys-Says.judge-storey w Code.env judge-storey-symbol.name judge-storey-symbol.routine Code.calls-storeys·storey·judge-storey (judge-storey-met.met 𝓤 H 𝓜 𝓖 𝓡),
-      put-storey-reads.known w Code.env put-storey-symbol.name put-storey-symbol.routine Code.calls-words·answers·put-storey (put-storey-met.met 𝓤 H 𝓜 𝓖 𝓡),
+      put-storey-reads.known w Code.env put-storey-symbol.name put-storey-symbol.routine Code.calls-answers·survey·put-storey (put-storey-met.met 𝓤 H 𝓜 𝓖 𝓡),
     )

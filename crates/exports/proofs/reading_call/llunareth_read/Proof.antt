@@ -22,7 +22,7 @@ use Rattle.reading.proofs.Structs.{reading}
 use Rattle.members.specs.Finding.{Returned}
 use Rattle.reading.specs.Survey.{Outcome, survey}
 use Rattle.reading.specs.Answer.{told as toldOf, storeysAfter, membersAfter}
-use Rattle.words.specs.Words.{packed}
+use Rattle.answers.specs.Packing.{packed}
 use Rattle.exports.specs.Calls.{readingCount, readingReturned}
 use Rattle.exports.proofs.Lines.{refusal-most, line-most}
 use Rattle.exports.proofs.Room.{with-room, no-room, put, not-put}
