@@ -3,10 +3,10 @@ ghost use mathlib.Core.Path.{_≡_};
 ghost use mathlib.Core.Bool.{_&&_, _||_};
 ghost use lib.Dec.{leb, eqb};
 ghost use lib.ListN.{getD};
-ghost use Prim.Native.Nat.{_≤_};
+ghost use Prim.Native.Nat.{_+_, _≤_};
 ghost use Rattle.records.specs.Notation.{everyBelow};
 ghost use Rattle.records.specs.declared.Kind.the-variants.{M, S4, M4, D};
-ghost use Rattle.records.specs.Records.{never, allows, headerRanges, storeyRanges, ranges, fields, inRange, lineInRange};
+ghost use Rattle.records.specs.Records.{never, allows, headerRanges, storeyRanges, caseRanges, ranges, fields, inRange, lineInRange};
 use records::CASE_FIELDS;
 use records::CASES;
 use records::FIELDS_MOST;
@@ -202,15 +202,15 @@ fn in_ranges(kind: Kind, vs: [u64; FIELDS_MOST]) -> bool
     true
 }
 
-// The first n fields of a member are in their ranges: the tables are laid out once.
-fn member_in_ranges(vs: [u64; FIELDS_MOST], n: usize) -> bool
-    requires { ⌜ n ≤ fields M ⌝ }
-    ensures { λ r. ⌜ r ≡ everyBelow (inRange M vs) n ⌝ }
+// Fields 1 to 9 of an M line are in their ranges, those of the section and its material, and 10 to 18, those of hoops, marks and N_D: in two loops, each short enough for the
+// compiler to lay out.
+fn section_in_ranges(vs: [u64; FIELDS_MOST]) -> bool
+    ensures { λ r. ⌜ r ≡ everyBelow (inRange M vs) 9 ⌝ }
 {
     let least = MEMBER_LEAST;
     let most = MEMBER_MOST;
     let mut j = 0;
-    while j < n {
+    while j < 9 {
         if !between(vs[j], least[j], most[j]) {
             return false;
         }
@@ -219,23 +219,64 @@ fn member_in_ranges(vs: [u64; FIELDS_MOST], n: usize) -> bool
     true
 }
 
-// The same of a D line.
-fn case_in_ranges(vs: [u64; FIELDS_MOST]) -> bool
-    ensures { λ r. ⌜ r ≡ lineInRange D vs ⌝ }
+fn detailing_in_ranges(vs: [u64; FIELDS_MOST]) -> bool
+    ensures { λ r. ⌜ r ≡ everyBelow (λ j. inRange M vs (9 + j)) 9 ⌝ }
 {
     let least = MEMBER_LEAST;
     let most = MEMBER_MOST;
-    if !case_allows(0, vs[0]) {
-        return false;
-    }
-    let mut j = 1;
-    while j < CASE_FIELDS {
-        if !between(vs[j], least[17 + j], most[17 + j]) {
+    let mut j = 0;
+    while j < 9 {
+        if !between(vs[9 + j], least[9 + j], most[9 + j]) {
             return false;
         }
         j += 1;
     }
     true
+}
+
+// The eight fields of a load case, of which the first stands at `from`, are in their ranges.
+fn case_in_ranges(vs: [u64; FIELDS_MOST], from: usize) -> bool
+    requires { ⌜ from ≤ 18 ⌝ }
+    ensures { λ r. ⌜ r ≡ everyBelow (λ j. allows (getD caseRanges j never) (getD vs (from + j) 0)) 8 ⌝ }
+{
+    let least = MEMBER_LEAST;
+    let most = MEMBER_MOST;
+    let mut j = 0;
+    while j < 8 {
+        if !between(vs[from + j], least[18 + j], most[18 + j]) {
+            return false;
+        }
+        j += 1;
+    }
+    true
+}
+
+// The fields of an M line of the form of four cases, of an M line of the old form, and of a D line.
+fn member_cases_in_ranges(vs: [u64; FIELDS_MOST]) -> bool
+    ensures { λ r. ⌜ r ≡ lineInRange M4 vs ⌝ }
+{
+    if !section_in_ranges(vs) {
+        return false;
+    }
+    detailing_in_ranges(vs)
+}
+
+pub fn member_in_ranges(vs: [u64; FIELDS_MOST]) -> bool
+    ensures { λ r. ⌜ r ≡ lineInRange M vs ⌝ }
+{
+    if !member_cases_in_ranges(vs) {
+        return false;
+    }
+    case_in_ranges(vs, 18)
+}
+
+fn case_line_in_ranges(vs: [u64; FIELDS_MOST]) -> bool
+    ensures { λ r. ⌜ r ≡ lineInRange D vs ⌝ }
+{
+    if !case_allows(0, vs[0]) {
+        return false;
+    }
+    case_in_ranges(vs, 1)
 }
 
 // Every field of a line is in its range.
@@ -245,9 +286,9 @@ pub fn line_in_ranges(kind: Kind, vs: [u64; FIELDS_MOST]) -> bool
     match kind {
         Kind::B => in_ranges(Kind::B, vs),
         Kind::S => in_ranges(Kind::S, vs),
-        Kind::M => member_in_ranges(vs, MEMBER_FIELDS),
+        Kind::M => member_in_ranges(vs),
         Kind::S4 => in_ranges(Kind::S4, vs),
-        Kind::M4 => member_in_ranges(vs, MEMBER_CASES_FIELDS),
-        Kind::D => case_in_ranges(vs),
+        Kind::M4 => member_cases_in_ranges(vs),
+        Kind::D => case_line_in_ranges(vs),
     }
 }

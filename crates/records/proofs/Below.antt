@@ -3,7 +3,7 @@ use Prim.Native.Nat.{ℕ, zero, suc, _+_, _<_}
 use native.Mathlib.Omega.{arith}
 use native.Mathlib.Nat.{not-suc-le-zero, eq-or-lt-of-le, le-of-suc-le-suc}
 use native.Mathlib.Numerals.{add-one}
-use mathlib.Core.Bool.{Bool, true, false, _&&_, and-false, or-true}
+use mathlib.Core.Bool.{Bool, true, false, _&&_, and-true, and-false, and-assoc, or-true}
 use mathlib.Core.Logic.{⊎-elim}
 use mathlib.Core.Path.{_≡_, refl, sym}
 use Rattle.records.specs.Notation.{everyBelow, anyBelow}
@@ -61,6 +61,14 @@ module _ (p : ℕ → Bool) where
   every-add n (suc k) e h =
       let z : n + suc k ≡ (n + k) + 1 = omega arith in
       rw z (every-more (n + k) (every-add n k e (λ i l. h i (omega arith))) (h k (omega arith)))
+
+  -- of n numbers and of the k after them
+  pub every-split : (n k : ℕ) → everyBelow p (n + k) ≡ (everyBelow p n && everyBelow (λ j. p (n + j)) k)
+  unfolding everyBelow
+  every-split n zero = let z : n + 0 ≡ n = omega arith in rw z (sym (and-true (everyBelow p n)))
+  every-split n (suc k) =
+      let z : n + suc k ≡ suc (n + k) = omega arith in
+      rw (z, every-split n k) (and-assoc (everyBelow p n) (everyBelow (λ j. p (n + j)) k) (p (n + k)))
 
   -- of four numbers, the first of which is known
   pub every-four : p 0 ≡ true → everyBelow p 4 ≡ ((p 1 && p 2) && p 3)

@@ -2,13 +2,13 @@
 use Prim.Native.Nat.{ℕ, zero, suc, _+_, _-_, _≤_, _<_}
 use native.Mathlib.Omega.{arith}
 use native.Mathlib.Nat.{le-of-suc-le-suc, not-suc-le-zero}
-use mathlib.Core.Bool.{Bool, true, false, _&&_}
+use mathlib.Core.Bool.{Bool, true, false, _&&_, and-true, and-false}
 use mathlib.Core.List.{List, [], _∷_}
 use mathlib.Core.Path.{_≡_, refl, sym, ap, _∙_}
 use lib.Dec.{leb, eqb}
 use lib.ListN.{length, getD, List·getD-append}
 use lib.Seq.{getD-append-add}
-use borrow.Author.Tests.{le-leb, lt-ltb, eq-eqb}
+use borrow.Author.Tests.{le-leb, lt-ltb, eq-eqb, eqb-true}
 use Rattle.records.specs.Notation.{pick, everyBelow}
 use Rattle.records.specs.declared.{LoadCase.LoadCase, Member.Member, MemberCase.MemberCase, Kind.Kind, Kind.the-variants.B, Kind.the-variants.S, Kind.the-variants.M, Kind.the-variants.S4, Kind.the-variants.M4, Kind.the-variants.D}
 use Rattle.records.specs.Records.{never, allows, ranges, fields, inRange, lineInRange, inCases, knownForm, caseCount, storeyKind, memberKind, noCase, caseOf, withCase, inCase, memberValues, caseValues, memberCaseValues, headerValues, storeyValues, headerBy, storeyBy, caseBy, oldCases, memberBy, sidesFault, caseFits, headerFault, storeyFault, memberFault, isBlank}
@@ -151,3 +151,17 @@ module _ (form : ℕ) (m : Member) (four : length (m .cases) ≡ 4) (d : LoadCas
 
   pub in-one : caseFits form m 0 ≡ true → inCases form ≡ false → ((isBlank (getD (m .cases) 1 d) && isBlank (getD (m .cases) 2 d)) && isBlank (getD (m .cases) 3 d)) ≡ (eqb (length (m .cases)) 4 && everyBelow (caseFits form m) 4)
   in-one e f = rw (same 1 (omega arith), same 2 (omega arith), same 3 (omega arith), eq-eqb (length (m .cases)) 4 four, every-four (caseFits form m) e, f)
+
+  -- the cases of a member fit where those after the first do, as the form has them, and the first does
+  abbrev pub laterFit : Bool
+  laterFit =
+      pick (inCases form) ((lineInRange D (1 ∷ caseValues (getD (m .cases) 1 d)) && lineInRange D (1 ∷ caseValues (getD (m .cases) 2 d))) && lineInRange D (1 ∷ caseValues (getD (m .cases) 3 d)))
+      ((isBlank (getD (m .cases) 1 d) && isBlank (getD (m .cases) 2 d)) && isBlank (getD (m .cases) 3 d))
+
+  with-first : caseFits form m 0 ≡ true → (b : Bool) → inCases form ≡ b → laterFit ≡ (eqb (length (m .cases)) 4 && everyBelow (caseFits form m) 4)
+  with-first e true f = rw f (in-four e (eqb-true form 2 f))
+  with-first e false f = rw f (in-one e f)
+
+  pub all-fit : (t : Bool) → caseFits form m 0 ≡ t → (laterFit && t) ≡ (eqb (length (m .cases)) 4 && everyBelow (caseFits form m) 4)
+  all-fit true e = and-true laterFit ∙ with-first e (inCases form) refl
+  all-fit false e = and-false laterFit ∙ first-unfit form m four e

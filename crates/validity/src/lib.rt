@@ -4,10 +4,11 @@ ghost use mathlib.Core.Bool.{_&&_};
 ghost use mathlib.Core.List.{[], _∷_};
 ghost use lib.Dec.{eqb};
 ghost use lib.ListN.{length};
-ghost use Rattle.records.specs.Notation.{everyBelow};
+ghost use Rattle.records.specs.Notation.{pick, everyBelow};
 ghost use Rattle.records.specs.declared.Kind.the-variants.{S, M, S4, D};
-ghost use Rattle.records.specs.Records.{knownForm, storeyValues, lineInRange, isBlank, caseValues, memberCaseValues, caseFits, shearsFit, sidesFault, headerFault, storeyFault, memberCaseFault, memberFault};
+ghost use Rattle.records.specs.Records.{inCases, knownForm, storeyValues, lineInRange, isBlank, caseValues, memberCaseValues, caseFits, shearsFit, sidesFault, headerFault, storeyFault, memberCaseFault, memberFault};
 use ranges::line_in_ranges;
+use ranges::member_in_ranges;
 use records::FIELDS_MOST;
 use records::FOUR_CASES;
 use records::Header;
@@ -193,7 +194,7 @@ fn fields_in_ranges(m: MemberCase) -> bool
         c.rotation,
         c.drift,
     ];
-    line_in_ranges(Kind::M, vs)
+    member_in_ranges(vs)
 }
 
 // 4, short side above long side.
@@ -220,28 +221,14 @@ pub fn member_case_fault(m: MemberCase) -> u64
 fn is_blank(c: LoadCase) -> bool
     ensures { λ r. ⌜ r ≡ isBlank c ⌝ }
 {
-    if c.nk != ZERO_FORCE {
-        return false;
-    }
-    if c.me != 0 {
-        return false;
-    }
-    if c.mp != 0 {
-        return false;
-    }
-    if c.ve != 0 {
-        return false;
-    }
-    if c.vr != 0 {
-        return false;
-    }
-    if c.shear != 0 {
-        return false;
-    }
-    if c.rotation != 0 {
-        return false;
-    }
-    c.drift == 0
+    (c.nk == ZERO_FORCE)
+        & (c.me == 0)
+        & (c.mp == 0)
+        & (c.ve == 0)
+        & (c.vr == 0)
+        & (c.shear == 0)
+        & (c.rotation == 0)
+        & (c.drift == 0)
 }
 
 // The fields of a load case are in their ranges, as those of a D line.
@@ -278,30 +265,30 @@ fn later_in_ranges(a: LoadCase, b: LoadCase, c: LoadCase) -> bool
 fn later_blank(a: LoadCase, b: LoadCase, c: LoadCase) -> bool
     ensures { λ r. ⌜ r ≡ ((isBlank a && isBlank b) && isBlank c) ⌝ }
 {
-    if !is_blank(a) {
-        return false;
+    is_blank(a) & is_blank(b) & is_blank(c)
+}
+
+fn later_fit(form: u64, a: LoadCase, b: LoadCase, c: LoadCase) -> bool
+    ensures { λ r. ⌜ r ≡ pick (inCases form) ((lineInRange D (1 ∷ caseValues a) && lineInRange D (1 ∷ caseValues b)) && lineInRange D (1 ∷ caseValues c)) ((isBlank a && isBlank b) && isBlank c) ⌝ }
+{
+    if form == FOUR_CASES {
+        return later_in_ranges(a, b, c);
     }
-    if !is_blank(b) {
-        return false;
-    }
-    is_blank(c)
+    later_blank(a, b, c)
 }
 
 // The cases of a member of a form; the fields that are the same in each are looked at with the first.
 fn cases_fit(form: u64, m: Member) -> bool
     ensures { λ r. ⌜ r ≡ (eqb (length (m .cases)) 4 && everyBelow (caseFits form m) 4) ⌝ }
 {
-    let first = m.cases[0];
-    if !fields_in_ranges(with_case(m, first)) {
-        return false;
-    }
     let second = m.cases[1];
     let third = m.cases[2];
     let fourth = m.cases[3];
-    if form == FOUR_CASES {
-        return later_in_ranges(second, third, fourth);
+    if !later_fit(form, second, third, fourth) {
+        return false;
     }
-    later_blank(second, third, fourth)
+    let first = m.cases[0];
+    fields_in_ranges(with_case(m, first))
 }
 
 // The first refusal of a member of a form by itself: 3 or 4, or 0.

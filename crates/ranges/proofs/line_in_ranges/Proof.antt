@@ -1,4 +1,3 @@
-use Rattle.records.proofs.Allowing.{member-fields}
 use mathlib.Core.Path.{_∙_}
 use borrow.Author.Needs.{needs}
 use Rattle.ranges.proofs.line_in_ranges.Statement.{statement}
@@ -31,14 +30,14 @@ in-ranges-requires-3 c κs = search needs
 enum-told-5 : tie.Need-enum-told-5
 enum-told-5 c = search needs
 
-member-in-ranges-requires-2 : tie.Need-member-in-ranges-requires-2
-member-in-ranges-requires-2 c κs = search needs
+member-cases-in-ranges-requires : tie.Need-member-cases-in-ranges-requires
+member-cases-in-ranges-requires c κs = search needs
 
 enum-told-6 : tie.Need-enum-told-6
 enum-told-6 c = search needs
 
-case-in-ranges-requires : tie.Need-case-in-ranges-requires
-case-in-ranges-requires c κs = search needs
+case-line-in-ranges-requires : tie.Need-case-line-in-ranges-requires
+case-line-in-ranges-requires c κs = search needs
 
 returns : tie.Need-returns
 returns c = c .in-ranges .ensures ∙ simp (c .before .enum-told .given .1)
@@ -53,10 +52,10 @@ returns-4 : tie.Need-returns-4
 returns-4 c = c .in-ranges3 .ensures ∙ simp (c .before .enum-told4 .given .1)
 
 returns-5 : tie.Need-returns-5
-returns-5 c = c .member-in-ranges2 .ensures ∙ member-fields (c .before .before .before .args .vs) ∙ simp (c .before .enum-told5 .given .1)
+returns-5 c = c .member-cases-in-ranges .ensures ∙ simp (c .before .enum-told5 .given .1)
 
 returns-6 : tie.Need-returns-6
-returns-6 c = c .case-in-ranges .ensures ∙ simp (c .before .enum-told6 .given .1)
+returns-6 c = c .case-line-in-ranges .ensures ∙ simp (c .before .enum-told6 .given .1)
 
 pub line-in-ranges-spec : {M : Type 1} → statement M
 line-in-ranges-spec =
@@ -71,9 +70,9 @@ line-in-ranges-spec =
     enum-told-4
     in-ranges-requires-3
     enum-told-5
-    member-in-ranges-requires-2
+    member-cases-in-ranges-requires
     enum-told-6
-    case-in-ranges-requires
+    case-line-in-ranges-requires
     returns
     returns-2
     returns-3

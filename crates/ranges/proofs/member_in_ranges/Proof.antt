@@ -1,85 +1,26 @@
-use Prim.Native.Nat.{_≤_, _-_}
-use native.Mathlib.Omega.{arith}
-use mathlib.Core.Bool.{true}
-use mathlib.Core.Path.{_≡_, _∙_, sym}
-use lib.ListN.{getD}
+use mathlib.Core.Bool.{Bool, true, false, _&&_}
+use mathlib.Core.Path.{_≡_, refl, _∙_, sym}
 use borrow.Author.Needs.{needs}
 use borrow.Author.Tests.{not-true, not-false}
-use Rattle.records.specs.Notation.{everyBelow}
-use Rattle.records.specs.Records.{fields, inRange}
-use Rattle.records.specs.declared.Kind.the-variants.{M}
-use Rattle.records.proofs.Allowing.{in-member-tables}
-use Rattle.records.proofs.Below.{every-none, every-more, every-fails}
+use Rattle.ranges.proofs.Parts.{member-parts}
 use Rattle.ranges.proofs.member_in_ranges.Statement.{statement}
 use Rattle.ranges.proofs.member_in_ranges.Tie as tie
 
-abbrev Inv-loop : tie.InvT-loop
-Inv-loop n vs least most j₀ j = (n ≤ fields M) × (j ≤ n) × (everyBelow (inRange M vs) j ≡ true)
+member-cases-in-ranges-requires : tie.Need-member-cases-in-ranges-requires
+member-cases-in-ranges-requires c κs = search needs
 
-abbrev μ-loop : tie.MeasureT-loop
-μ-loop n vs least most j₀ j = n - j
-
-loop-holds : tie.Need-loop-holds Inv-loop μ-loop
-loop-holds c = (c .pre, omega arith, every-none _)
-
-mul-between : tie.Need-mul-between Inv-loop μ-loop
-mul-between c = search needs
-
-array-read-between : tie.Need-array-read-between Inv-loop μ-loop
-array-read-between c = search needs
-
-mul-between-2 : tie.Need-mul-between-2 Inv-loop μ-loop
-mul-between-2 c = search needs
-
-array-read-between-2 : tie.Need-array-read-between-2 Inv-loop μ-loop
-array-read-between-2 c = search needs
-
-mul-between-3 : tie.Need-mul-between-3 Inv-loop μ-loop
-mul-between-3 c = search needs
-
-array-read-between-3 : tie.Need-array-read-between-3 Inv-loop μ-loop
-array-read-between-3 c = search needs
-
-between-requires : tie.Need-between-requires Inv-loop μ-loop
-between-requires c κs = search needs
-
-returns : tie.Need-returns Inv-loop μ-loop
+returns : tie.Need-returns
 returns c =
-    let l = c .before .before .before .loop in
-    let a = c .before .before .before .before .args in
-    sym (every-fails (inRange M (a .t1)) (a .n) (l .j) (omega arith) (sym (in-member-tables (l .j) (getD (a .t1) (l .j) 0) (omega arith)) ∙ sym (c .before .between .ensures) ∙ not-true _ (c .if1 .taken)))
+    let x : _ ≡ false = sym (c .before .member-cases-in-ranges .ensures) ∙ not-true _ (c .if1 .taken) in
+    sym (member-parts (c .before .before .args .vs) ∙ rw x)
 
-add-j : tie.Need-add-j Inv-loop μ-loop
-add-j c = search needs
+case-in-ranges-requires : tie.Need-case-in-ranges-requires
+case-in-ranges-requires c κs = search needs
 
-loop-less : tie.Need-loop-less Inv-loop μ-loop
-loop-less c = search needs
-
-loop-again : tie.Need-loop-again Inv-loop μ-loop
-loop-again c =
-    let l = c .before .before .before .loop in
-    let a = c .before .before .before .before .args in
-    (l .inv .0, omega arith, every-more (inRange M (a .t1)) (l .j) (l .inv .2) (sym (in-member-tables (l .j) (getD (a .t1) (l .j) 0) (omega arith)) ∙ sym (c .before .between .ensures) ∙ not-false _ (c .if1 .left)))
-
-returns-2 : tie.Need-returns-2 Inv-loop μ-loop
-returns-2 c = let l = c .before .loop in let e : l .j ≡ c .before .before .args .n = omega arith in sym (rw e at (l .inv .2))
+returns-2 : tie.Need-returns-2
+returns-2 c =
+    let x : _ ≡ true = sym (c .before .before .member-cases-in-ranges .ensures) ∙ not-false _ (c .before .if1 .left) in
+    c .case-in-ranges .ensures ∙ sym (member-parts (c .before .before .before .args .vs) ∙ rw x)
 
 pub member-in-ranges-spec : {M : Type 1} → statement M
-member-in-ranges-spec =
-    tie.close
-    (tie.spec
-    Inv-loop
-    μ-loop
-    loop-holds
-    mul-between
-    array-read-between
-    mul-between-2
-    array-read-between-2
-    mul-between-3
-    array-read-between-3
-    between-requires
-    returns
-    add-j
-    loop-less
-    loop-again
-    returns-2)
+member-in-ranges-spec = tie.close (tie.spec member-cases-in-ranges-requires returns case-in-ranges-requires returns-2)
