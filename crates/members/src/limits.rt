@@ -277,29 +277,29 @@ fn round_rotation(f: Fraction, q: u64, factor: u64) -> Microradians
     Microradians::steps(f.num * q * factor, f.den * 4 * 100)
 }
 
-// The limit of m.
-pub(crate) fn m_limit(s: LimitSet, class: Class, zone: u64, strengthened: u64, at: Ratios) -> Ratio
-    requires { ⌜ SizedSet s ⌝ }
-    ensures { λ r. ⌜ r ≡ mLimitAt s class zone strengthened (at .n .0) (at .v .0) (at .rho .0) ⌝ }
-{
-    let f = exact(s.places, s.m, class, zone, at);
-    let q = quarters(class, strengthened);
-    round_m(f, q)
+// The two limits of a member.
+pub(crate) struct Limits {
+    pub m: Ratio,
+    pub rotation: Microradians,
 }
 
-// The limit of the rotation.
-pub(crate) fn rotation_limit(
+pub(crate) fn both_limits(
     s: LimitSet,
     class: Class,
     zone: u64,
     strengthened: u64,
     factor: u64,
     at: Ratios,
-) -> Microradians
+) -> Limits
     requires { ⌜ SizedSet s × (factor ≤ 100) ⌝ }
-    ensures { λ r. ⌜ r ≡ rotationLimitAt s class zone strengthened factor (at .n .0) (at .v .0) (at .rho .0) ⌝ }
+    ensures { λ r. ⌜ r .m ≡ mLimitAt s class zone strengthened (at .n .0) (at .v .0) (at .rho .0) ⌝ }
+    ensures { λ r. ⌜ r .rotation ≡ rotationLimitAt s class zone strengthened factor (at .n .0) (at .v .0) (at .rho .0) ⌝ }
 {
-    let f = exact(s.places, s.rotation, class, zone, at);
+    let f = exact(s.places, s.m, class, zone, at);
+    let g = exact(s.places, s.rotation, class, zone, at);
     let q = quarters(class, strengthened);
-    round_rotation(f, q, factor)
+    Limits {
+        m: round_m(f, q),
+        rotation: round_rotation(g, q, factor),
+    }
 }

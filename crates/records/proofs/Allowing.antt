@@ -81,9 +81,6 @@ pub case-field : (j : ℕ) → (j ≡ 0 → ⊥) → getD (ranges M 0) (17 + j) 
 case-field zero h = absurd (h refl)
 case-field (suc j) h = let e : 17 + suc j ≡ 18 + j = omega arith in rw e (getD-append-add memberRanges caseRanges j never)
 
-pub in-case-tables : (j v : ℕ) → (j ≡ 0 → ⊥) → j < fields D → (leb (getD (lows (ranges M 0)) (17 + j) 0) v && leb v (getD (highs (ranges M 0)) (17 + j) 0)) ≡ allows (getD (ranges D 0) j never) v
-in-case-tables j v z h = in-member-tables (17 + j) v (omega arith) ∙ ap (λ r. allows r v) (case-field j z)
-
 -- no line has more fields than an M line
 pub fields-most : (kind : Kind) → fields kind ≤ fields M
 fields-most B = omega arith

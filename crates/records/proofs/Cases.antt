@@ -19,11 +19,6 @@ getD-any [] j d e h = absurd (not-suc-le-zero h)
 getD-any (x ∷ xs) zero d e h = refl
 getD-any (x ∷ xs) (suc j) d e h = getD-any xs j d e (le-of-suc-le-suc h)
 
--- a case whose first seven numbers are those of one that the form lacks
-pub blank-last : (k : LoadCase) → k .nk ≡ zeroForce → k .me ≡ 0 → k .mp ≡ 0 → k .ve ≡ 0 → k .vr ≡ 0 → k .shear ≡ 0 → k .rotation ≡ 0 → eqb (k .drift) 0 ≡ isBlank k
-unfolding isBlank everyBelow
-blank-last k a b c d e f g = rw (a, b, c, d, e, f, g)
-
 pub blank-none : isBlank noCase ≡ true
 unfolding isBlank everyBelow
 blank-none = refl

@@ -130,7 +130,7 @@ member-cases-good form f g e r q = fits-all form m refl fits
     fits (suc (suc (suc (suc c)))) h = let z : ⊥ = omega arith in absurd z
 
 -- ---- the check of a member by its first case and then the others
-pub first-unfit : (form : ℕ) (m : Member) → length (m .cases) ≡ 4 → caseFits form m 0 ≡ false → false ≡ (eqb (length (m .cases)) 4 && everyBelow (caseFits form m) 4)
+first-unfit : (form : ℕ) (m : Member) → length (m .cases) ≡ 4 → caseFits form m 0 ≡ false → false ≡ (eqb (length (m .cases)) 4 && everyBelow (caseFits form m) 4)
 first-unfit form m four e = rw (eq-eqb (length (m .cases)) 4 four, every-fails (caseFits form m) 4 0 (omega arith) e)
 
 -- d is what the code's array of cases has past its end
@@ -143,13 +143,13 @@ module _ (form : ℕ) (m : Member) (four : length (m .cases) ≡ 4) (d : LoadCas
       rw (lt-ltb 0 (caseCount form) (cases-least form))
       (ap (λ k. lineInRange M (memberCaseValues k)) (sym (e ∙ ap (withCase m) (same 0 (omega arith)))) ∙ f)
 
-  pub in-four : caseFits form m 0 ≡ true → form ≡ 2 → ((lineInRange D (1 ∷ caseValues (getD (m .cases) 1 d)) && lineInRange D (1 ∷ caseValues (getD (m .cases) 2 d))) && lineInRange D (1 ∷ caseValues (getD (m .cases) 3 d))) ≡ (eqb (length (m .cases)) 4 && everyBelow (caseFits form m) 4)
+  in-four : caseFits form m 0 ≡ true → form ≡ 2 → ((lineInRange D (1 ∷ caseValues (getD (m .cases) 1 d)) && lineInRange D (1 ∷ caseValues (getD (m .cases) 2 d))) && lineInRange D (1 ∷ caseValues (getD (m .cases) 3 d))) ≡ (eqb (length (m .cases)) 4 && everyBelow (caseFits form m) 4)
   in-four e f =
       let g : Ranged M (memberCaseValues (inCase 0 m)) = rw f at e in
       let alone : (c : ℕ) → lineInRange M (memberCaseValues (inCase c m)) ≡ lineInRange D (1 ∷ caseValues (caseOf c m)) = λ c. case-alone m (caseOf 0 m) (caseOf c m) g in
       rw (same 1 (omega arith), same 2 (omega arith), same 3 (omega arith), ← alone 1, ← alone 2, ← alone 3, eq-eqb (length (m .cases)) 4 four, every-four (caseFits form m) e, f)
 
-  pub in-one : caseFits form m 0 ≡ true → inCases form ≡ false → ((isBlank (getD (m .cases) 1 d) && isBlank (getD (m .cases) 2 d)) && isBlank (getD (m .cases) 3 d)) ≡ (eqb (length (m .cases)) 4 && everyBelow (caseFits form m) 4)
+  in-one : caseFits form m 0 ≡ true → inCases form ≡ false → ((isBlank (getD (m .cases) 1 d) && isBlank (getD (m .cases) 2 d)) && isBlank (getD (m .cases) 3 d)) ≡ (eqb (length (m .cases)) 4 && everyBelow (caseFits form m) 4)
   in-one e f = rw (same 1 (omega arith), same 2 (omega arith), same 3 (omega arith), eq-eqb (length (m .cases)) 4 four, every-four (caseFits form m) e, f)
 
   -- the cases of a member fit where those after the first do, as the form has them, and the first does

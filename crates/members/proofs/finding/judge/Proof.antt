@@ -16,20 +16,17 @@ moment-ratio-requires c κs =
     let p = c .before .before .pre in
     (p .1, p .2, p .3 .me, p .3 .mp-least, p .3 .mp)
 
-m-limit-requires : tie.Need-m-limit-requires
-m-limit-requires c κs = c .before .before .before .pre .0
+both-limits-requires : tie.Need-both-limits-requires
+both-limits-requires c κs =
+    let p = c .before .before .before .pre in
+    (p .0, p .3 .factor)
 
 steps-requires : tie.Need-steps-requires
 steps-requires c κs = omega arith
 
-rotation-limit-requires : tie.Need-rotation-limit-requires
-rotation-limit-requires c κs =
-    let p = c .before .before .before .before .before .pre in
-    (p .0, p .3 .factor)
-
 m-dropped-requires : tie.Need-m-dropped-requires
 m-dropped-requires c κs =
-    let p = c .before .before .before .before .before .before .pre in
+    let p = c .before .before .before .before .before .before .before .pre in
     (p .2, p .3)
 
 over-m-requires : tie.Need-over-m-requires
@@ -37,21 +34,22 @@ over-m-requires c κs = tt
 
 axial-requires : tie.Need-axial-requires
 axial-requires c κs =
-    let v = c .before .before .before .before .before .before .before .before .before .before .pre .3 in
+    let v = c .before .before .before .before .before .before .before .before .before .before .before .pre .3 in
     (v .nd, v .fcm-least, v .fcm, v .area-least, v .area)
 
 returns : tie.Need-returns
 returns c =
-    let b = c .before .before .before .before .before .before .before .before .before .before .before in
+    let limits = c .before .before .before .before .before .before .before .before in
+    let b = limits .before .before .before .before in
     let a = b .args in
     let r = a .m .case .rotation in
     assembled (a .s) (a .k) (a .met) (a .m)
-    (c .before .before .before .before .before .before .before .before .before .before .class-of .ensures)
-    (c .before .before .before .before .before .before .before .before .before .ratios .ensures)
-    (c .before .before .before .before .before .before .before .before .moment-ratio .ensures)
+    (limits .before .before .before .class-of .ensures)
+    (limits .before .before .ratios .ensures)
+    (limits .before .moment-ratio .ensures)
     (c .before .before .before .before .before .before .steps .ensures ∙ below-cap r 1 (omega arith) (omega (arith, b .pre .3 .rotation)) ∙ whole r)
-    (c .before .before .before .before .before .before .before .m-limit .ensures)
-    (c .before .before .before .before .before .rotation-limit .ensures)
+    (limits .both-limits .ensures .0)
+    (limits .both-limits .ensures .1)
     (c .before .before .before .before .m-dropped .ensures)
     (c .before .before .before .over-m .ensures)
     refl
@@ -64,9 +62,8 @@ judge-spec =
     class-of-requires
     ratios-requires
     moment-ratio-requires
-    m-limit-requires
+    both-limits-requires
     steps-requires
-    rotation-limit-requires
     m-dropped-requires
     over-m-requires
     axial-requires
