@@ -4,7 +4,8 @@ use Rattle.records.specs.Records.{inCases, caseCount, shearOf, inCase}
 use Rattle.records.specs.Notation.{ℕ, zero, suc, _+_, Bool, List, [], _∷_, _++_, leb, eqb, length, drop, pick, inOrder}
 use Rattle.checks.specs.Rows.{Storey, Member, Survey, storeyIn, membersOf, recordsFault}
 use Rattle.members.specs.{declared.finding.Finding.Finding, Class.code, Finding.finding, Finding.flag, Finding.Returned, Finding.found, Finding.refused}
-use Rattle.storeys.specs.{declared.StoreyFinding.StoreyFinding, Storey.publishedRules, Storey.meetsWallShare, Storey.findingIn, Building.tilted, Building.buildingRisky}
+use Rattle.totals.specs.declared.StoreyFinding.{StoreyFinding}
+use Rattle.storeys.specs.{Storey.publishedRules, Storey.meetsWallShare, Storey.findingIn, Building.tilted, Building.buildingRisky}
 use Rattle.columns.specs.Line.{line}
 use Rattle.report.specs.declared.ReportAnswer.{ReportAnswer, the-variants.Written, the-variants.Refused}
 

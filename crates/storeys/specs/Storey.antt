@@ -1,11 +1,12 @@
 -- The judgment of a storey (document 01, "Storey and building", "Refusals as returned"; document 02, N3): any storey record with any rows of members. What goes by
 -- load case takes the case c, counted from 0.
-use Rattle.records.specs.Notation.{ℕ, _+_, _-_, _*_, Bool, _&&_, _||_, List, [], _∷_, _++_, _≡_, leb, ltb, eqb, length, pick, inOrder, total, anyOf, anyBelow}
-use Rattle.records.specs.{declared.Storey.Storey, declared.Member.Member, declared.MemberCase.MemberCase, Records.inCases, Records.knownForm, Records.caseCount, Records.shearOf, Records.caseOf, Records.inCase, Records.storeyFault}
+use Rattle.records.specs.Notation.{ℕ, _+_, _*_, Bool, _&&_, _||_, List, [], _∷_, _++_, leb, ltb, eqb, length, pick, inOrder, total, anyOf, anyBelow}
+use Rattle.records.specs.{declared.Storey.Storey, declared.Member.Member, Records.inCases, Records.knownForm, Records.caseCount, Records.shearOf, Records.caseOf, Records.inCase, Records.storeyFault}
 use Rattle.checks.specs.Rows.{countFault, memberRowsFault}
-use Rattle.members.specs.{declared.tables.Share.Share, declared.tables.LimitSet.LimitSet, declared.limits.Fraction.Fraction, Class.isWall, Tables.published, Tables.publishedShare, Limits.row, Limits.interp}
+use Rattle.members.specs.{declared.tables.Share.Share, declared.tables.LimitSet.LimitSet, Tables.published, Tables.publishedShare}
 use Rattle.members.specs.Finding.{axialRatioD, findingBy, knowledge, flag, Returned, found, refused}
-use Rattle.storeys.specs.declared.{StoreyFinding.StoreyFinding, StoreyFindings.StoreyFindings, StoreyAnswer.StoreyAnswer, StoreyAnswer.the-variants.Judged, StoreyAnswer.the-variants.JudgedCases, StoreyAnswer.the-variants.Refused}
+use Rattle.totals.specs.{declared.StoreyFinding.StoreyFinding, Share.exceedsShare, Share.shareOf, Totals.wallShear}
+use Rattle.storeys.specs.declared.{StoreyFindings.StoreyFindings, StoreyAnswer.StoreyAnswer, StoreyAnswer.the-variants.Judged, StoreyAnswer.the-variants.JudgedCases, StoreyAnswer.the-variants.Refused}
 
 -- what a survey is judged by: the limits of the members, and the allowed share of a storey
 pub record Rules : Type 0 where
@@ -15,10 +16,6 @@ pub record Rules : Type 0 where
 -- the rules that documents 01 and 02 publish
 abbrev pub publishedRules : Rules
 publishedRules = record { limits = published; share = publishedShare }
-
--- the V of a wall, and of a column nothing
-abbrev pub wallShear : MemberCase → ℕ
-wallShear m = pick (isWall m) (m .case .shear) 0
 
 -- "a storey whose walls' V total ≥ 0.40 × storey shear": all walls count, over or not
 unfoldable pub meetsWallShare : ℕ → ℕ → List Member → Bool
@@ -51,21 +48,6 @@ someOver rules k met c ms = anyOf (over rules k met c) ms
 unfoldable pub damaged : ℕ → List Member → ℕ
 damaged kind ms = total (λ m. flag (eqb (m .damage) kind)) ms
 
--- the allowed share in hundredths, at the axial ratios Σ of c members: linear between the ends and constant outside
-unfoldable pub allowedShare : Share → ℕ → ℕ → Fraction
-allowedShare share σ c =
-    interp (row (share .ends .r1 * c) (share .shares .r1)) (row (share .ends .r2 * c) (share .shares .r2) ∷ []) σ
-
--- "P / W exceeds it"
-unfoldable pub exceedsShare : Share → ℕ → ℕ → ℕ → ℕ → Bool
-exceedsShare share σ c p w = ltb (w * allowedShare share σ c .num) (100 * p * allowedShare share σ c .den)
-
--- "0.35 while Σ ≤ 10,000 × c, 0 from Σ = 65,000 × c, and 7 × (65,000 × c − Σ) / (1,100,000 × c) between": what the published share comes to (law `published-share`)
-abbrev pub PublishedShare : Type 0
-PublishedShare =
-    (σ c p w : ℕ) → exceedsShare publishedShare σ c p w ≡ pick (leb σ (10_000 * c)) (ltb (7 * w) (20 * p)) (pick (leb (65_000 * c) σ) (ltb 0 p)
-    (ltb (7 * w * (65_000 * c - σ)) (1_100_000 * c * p)))
-
 -- "20 × h1 + 28 × h2 + 35 × h3 + 140 × h4 ≥ 7 × c"
 unfoldable pub riskyByDamage : List Member → Bool
 riskyByDamage ms = leb (7 * length ms) (20 * damaged 1 ms + 28 * damaged 2 ms + 35 * damaged 3 ms + 140 * damaged 4 ms)
@@ -84,10 +66,6 @@ caseRisky rules k c w ms = riskyByShare rules k c w ms || (riskyByOneOver rules 
 -- "A storey is Risky when it is in some case" (document 02, N3)
 unfoldable pub storeyRisky : Rules → ℕ → ℕ → Storey → List Member → Bool
 storeyRisky rules form k s ms = anyBelow (λ c. caseRisky rules k c (shearOf c s) ms) (caseCount form)
-
--- the allowed share as the two numbers of which it is the quotient
-abbrev pub shareOf : Share → ℕ → ℕ → Fraction
-shareOf share σ c = record { num = allowedShare share σ c .num; den = 100 * allowedShare share σ c .den }
 
 -- what a storey is found to be in case c
 unfoldable pub storeyFinding : Rules → ℕ → ℕ → ℕ → List Member → StoreyFinding
