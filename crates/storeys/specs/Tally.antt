@@ -19,14 +19,14 @@ use Rattle.checks.specs.Rows.{countFault, memberRowsFault}
 unfoldable pub withMember : Tally → ℕ → Bool → MemberCase → Tally
 withMember t k met m = addedBy t (finding k met m .over) (axialRatioD m .0) m
 
--- the totals of some members in case c
+-- the totals of some members in case l
 unfoldable pub tallyOf : ℕ → Bool → ℕ → List Member → Tally
-tallyOf k met c ms =
+tallyOf k met l ms =
     record {
       members = length ms;
       «axial_total» = axialTotal ms;
-      «over_shear» = overShear publishedRules k met c ms;
-      some = someOver publishedRules k met c ms;
+      «over_shear» = overShear publishedRules k met l ms;
+      some = someOver publishedRules k met l ms;
       damage = 20 * damaged 1 ms + 28 * damaged 2 ms + 35 * damaged 3 ms + 140 * damaged 4 ms;
     }
 
@@ -53,11 +53,11 @@ casesBy a b c d =
 abbrev pub headFault : ℕ → ℕ → Storey → ℕ → ℕ
 headFault k form s rows = inOrder (countFault (s .count) rows ∷ levelFault k form ∷ storeyFault form s ∷ [])
 
--- the walls' V of some members in case c, from t on
+-- the walls' V of some members in case l, from t on
 unfoldable pub wallsFrom : ℕ → ℕ → List Member → ℕ
-wallsFrom t c [] = t
-wallsFrom t c (m ∷ ms) = wallsFrom (addedWall t (inCase c m)) c ms
+wallsFrom t l [] = t
+wallsFrom t l (m ∷ ms) = wallsFrom (addedWall t (inCase l m)) l ms
 
 -- the 0.40 condition by them
 unfoldable pub wallsSuffice : ℕ → ℕ → List Member → Bool
-wallsSuffice c w ms = metBy w (wallsFrom 0 c ms)
+wallsSuffice l w ms = metBy w (wallsFrom 0 l ms)
