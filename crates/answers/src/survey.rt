@@ -22,9 +22,9 @@ use report::ReportJudgment;
 use storeys::BuildingAnswer;
 use storeys::BuildingJudgment;
 use storeys::StoreyAnswer;
-use storeys::StoreyFinding;
 use storeys::StoreyFindings;
 use storeys::StoreyJudgment;
+use totals::StoreyFinding;
 use writing::WriteAnswer;
 use writing::Writing;
 

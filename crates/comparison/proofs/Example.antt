@@ -17,7 +17,8 @@ use Rattle.members.specs.Limits.{interp, blend, columnA, columnB, columnC, wall
 use Rattle.members.specs.Finding.{axial, moment, stress, hoops, mLimit, rotationLimit, mDropped, isOver, findingBy, answerBy}
 use Rattle.storeys.specs.declared.BuildingAnswer.{BuildingAnswer}
 use Rattle.storeys.specs.declared.BuildingAnswer.the-variants.{Judged}
-use Rattle.storeys.specs.Storey.{publishedRules, meetsWallShare, axialTotal, overShear, someOver, damaged, allowedShare, exceedsShare, riskyByDamage, caseRisky, storeyRisky, storeyFinding, storeyCallFault, storeyAnswerBy}
+use Rattle.totals.specs.Share.{allowedShare, exceedsShare}
+use Rattle.storeys.specs.Storey.{publishedRules, meetsWallShare, axialTotal, overShear, someOver, damaged, riskyByDamage, caseRisky, storeyRisky, storeyFinding, storeyCallFault, storeyAnswerBy}
 use Rattle.checks.specs.Rows.{rowFault, memberRowsFault, membersBefore, membersOf, countsFault, storeyRowsFault, recordsFault}
 use Rattle.records.specs.Blank.{noMember}
 use Rattle.storeys.specs.Building.{riskyAt, tilted, someRisky, buildingRisky, buildingAnswerBy, named}

@@ -13,7 +13,7 @@ use Rattle.members.specs.Class.{code, isWall, detailed, shearBelow, columnClass
 use Rattle.members.specs.Ordered.{orderedSet}
 use Rattle.members.specs.Finding.{axialRatioD, isOver}
 use Rattle.members.proofs.Worse.{Worse, Fallen, nd-worse, columns-fall, same-class-falls, over-stays}
-use Rattle.storeys.specs.Storey.{wallShear}
+use Rattle.totals.specs.Totals.{wallShear}
 use Rattle.comparison.specs.Demand3.{WallCondition, SameClass, AtLeastAsSevereIn}
 use Rattle.comparison.specs.Orderly.{LimitsFall}
 

@@ -15,7 +15,8 @@ use Rattle.records.specs.declared.Member.{Member}
 use Rattle.records.proofs.Below.{and-left, and-right}
 use Rattle.members.specs.Ordered.{orderedSet}
 use Rattle.members.specs.Finding.{findingBy}
-use Rattle.storeys.specs.Storey.{Rules, wallShear, meetsWallShare, memberAxial, axialTotal, over, shearIfOver, overShear, someOver, caseRisky}
+use Rattle.totals.specs.Totals.{wallShear}
+use Rattle.storeys.specs.Storey.{Rules, meetsWallShare, memberAxial, axialTotal, over, shearIfOver, overShear, someOver, caseRisky}
 use Rattle.comparison.specs.Orderly.{orderly, LimitsFall}
 use Rattle.comparison.specs.Pairing.{EveryPair}
 use Rattle.comparison.specs.Demand3.{WallCondition, MemberPairs, AtLeastAsSevereIn}

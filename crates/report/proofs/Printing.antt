@@ -11,7 +11,7 @@ use Rattle.records.specs.Records.{inCases, caseCount}
 use Rattle.members.specs.Class.{code}
 use Rattle.members.specs.Finding.{flag}
 use Rattle.members.specs.declared.finding.Finding.{Finding}
-use Rattle.storeys.specs.declared.StoreyFinding.{StoreyFinding}
+use Rattle.totals.specs.declared.StoreyFinding.{StoreyFinding}
 use Rattle.columns.specs.Line.{line, sheetLineSize}
 use Rattle.columns.specs.Bytes.{stamped, putAt, placeAfter}
 use Rattle.columns.proofs.Stamps.{length-line, put-fits, place-fits}

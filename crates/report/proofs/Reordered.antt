@@ -12,7 +12,8 @@ use Rattle.records.specs.declared.Header.{Header}
 use Rattle.records.specs.declared.Storey.{Storey}
 use Rattle.records.specs.declared.Member.{Member}
 use Rattle.members.specs.Finding.{finding, flag}
-use Rattle.storeys.specs.Storey.{publishedRules, wallShear, meetsWallShare, memberAxial, axialTotal, over, shearIfOver, overShear, someOver, damaged, riskyByDamage, caseRisky, storeyRisky, storeyFinding, findingIn}
+use Rattle.totals.specs.Totals.{wallShear}
+use Rattle.storeys.specs.Storey.{publishedRules, meetsWallShare, memberAxial, axialTotal, over, shearIfOver, overShear, someOver, damaged, riskyByDamage, caseRisky, storeyRisky, storeyFinding, findingIn}
 use Rattle.checks.specs.Rows.{storeyIn, membersOf}
 use Rattle.storeys.specs.Building.{riskyAt, tilted, someRisky, buildingRisky}
 use Rattle.report.specs.Sheet.{memberLine, storeyLine, buildingLine, memberLines, caseLines, casesLines, storeyLines, storeysLines, sheet}

@@ -15,11 +15,11 @@ use Rattle.records.specs.declared.Storey.{Storey}
 use Rattle.records.specs.declared.Member.{Member}
 use Rattle.members.specs.Finding.{finding}
 use Rattle.members.specs.declared.finding.Finding.{Finding}
-use Rattle.storeys.specs.declared.StoreyFinding.{StoreyFinding}
-use Rattle.storeys.specs.declared.row.Tally.{Tally}
+use Rattle.totals.specs.declared.StoreyFinding.{StoreyFinding}
+use Rattle.totals.specs.declared.Tally.{Tally}
 use Rattle.storeys.specs.Storey.{publishedRules, meetsWallShare, caseRisky, storeyFinding, findingIn, storeyCallFault}
-use Rattle.storeys.specs.Totals.{foundBy, wallsSuffice}
-use Rattle.storeys.specs.Tally.{withMember, tallyOf, Rows}
+use Rattle.totals.specs.Totals.{foundBy}
+use Rattle.storeys.specs.Tally.{withMember, tallyOf, Rows, wallsSuffice}
 use Rattle.storeys.proofs.Loops.{Going, going-none, going-next, going-all}
 use Rattle.storeys.proofs.Accepted.{storey-good, storey-rows}
 use Rattle.storeys.proofs.Called.{walls-are, found-is}

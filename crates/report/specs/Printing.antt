@@ -6,7 +6,7 @@ use lib.Dec.{eqb}
 use Rattle.columns.specs.Line.{sheetLineSize}
 use Rattle.records.specs.Notation.{pick}
 use Rattle.records.specs.Records.{inCases, caseCount}
-use Rattle.storeys.specs.Totals.{noTally}
+use Rattle.totals.specs.Totals.{noTally}
 use Rattle.report.specs.declared.printed.PrintedStoreys.{PrintedStoreys}
 use Rattle.report.specs.declared.printed.PrintedMembers.{PrintedMembers}
 use Rattle.report.specs.Sheet.{lengthFault}

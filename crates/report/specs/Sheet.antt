@@ -1,27 +1,28 @@
 -- The printed sheet and the report call (document 01, "The printed sheet", "Refusals as returned"; document 02, N3): any survey, and a buffer of any length. A load
--- case c is counted from 0.
+-- case l is counted from 0.
 use Rattle.records.specs.Records.{inCases, caseCount, shearOf, inCase}
 use Rattle.records.specs.Notation.{ℕ, zero, suc, _+_, Bool, List, [], _∷_, _++_, leb, eqb, length, drop, pick, inOrder}
 use Rattle.checks.specs.Rows.{Storey, Member, Survey, storeyIn, membersOf, recordsFault}
 use Rattle.members.specs.{declared.finding.Finding.Finding, Class.code, Finding.finding, Finding.flag, Finding.Returned, Finding.found, Finding.refused}
-use Rattle.storeys.specs.{declared.StoreyFinding.StoreyFinding, Storey.publishedRules, Storey.meetsWallShare, Storey.findingIn, Building.tilted, Building.buildingRisky}
+use Rattle.totals.specs.declared.StoreyFinding.{StoreyFinding}
+use Rattle.storeys.specs.{Storey.publishedRules, Storey.meetsWallShare, Storey.findingIn, Building.tilted, Building.buildingRisky}
 use Rattle.columns.specs.Line.{line}
 use Rattle.report.specs.declared.ReportAnswer.{ReportAnswer, the-variants.Written, the-variants.Refused}
 
 -- "case number added as the first field" (document 02, N3); in the old form none
 abbrev pub caseFirst : ℕ → ℕ → List ℕ → List ℕ
-caseFirst form c vs = pick (inCases form) ((c + 1) ∷ vs) vs
+caseFirst form l vs = pick (inCases form) ((l + 1) ∷ vs) vs
 
 -- an `M` line (byte 77): "number, class (1 to 3 columns A to C, 4 and 5 walls A and B), m, its limit, rotation, its limit, over (0 or 1)"
 unfoldable pub memberLine : ℕ → ℕ → ℕ → Finding → List ℕ
-memberLine form c number f =
+memberLine form l number f =
     line (77 ∷ [])
-    (caseFirst form c (number ∷ code (f .class) ∷ f .m .0 ∷ f .«m_limit» .0 ∷ f .rotation .0 ∷ f .«rotation_limit» .0 ∷ flag (f .over) ∷ []))
+    (caseFirst form l (number ∷ code (f .class) ∷ f .m .0 ∷ f .«m_limit» .0 ∷ f .rotation .0 ∷ f .«rotation_limit» .0 ∷ flag (f .over) ∷ []))
 
 -- an `S` line (83): "number, Σ, c, P, W, Risky"; "Risky as in that case"
 unfoldable pub storeyLine : ℕ → ℕ → ℕ → StoreyFinding → List ℕ
-storeyLine form c number f =
-    line (83 ∷ []) (caseFirst form c (number ∷ f .«axial_total» ∷ f .members ∷ f .«over_shear» ∷ f .shear ∷ flag (f .risky) ∷ []))
+storeyLine form l number f =
+    line (83 ∷ []) (caseFirst form l (number ∷ f .«axial_total» ∷ f .members ∷ f .«over_shear» ∷ f .shear ∷ flag (f .risky) ∷ []))
 
 -- the `B` line (66): "tilt above 25,000, Risky"
 unfoldable pub buildingLine : Bool → Bool → List ℕ
@@ -31,20 +32,20 @@ buildingLine tilt risky = line (66 ∷ []) (flag tilt ∷ flag risky ∷ [])
 unfoldable pub refusalLine : ℕ → ℕ → List ℕ
 refusalLine refusal place = line (69 ∷ []) (refusal ∷ place ∷ [])
 
--- the `M` lines of some members in case c, judged with k and the 0.40 condition of their storey
+-- the `M` lines of some members in case l, judged with k and the 0.40 condition of their storey
 unfoldable pub memberLines : ℕ → ℕ → Bool → ℕ → List Member → List ℕ
-memberLines form k met c [] = []
-memberLines form k met c (m ∷ ms) = memberLine form c (m .number) (finding k met (inCase c m)) ++ memberLines form k met c ms
+memberLines form k met l [] = []
+memberLines form k met l (m ∷ ms) = memberLine form l (m .number) (finding k met (inCase l m)) ++ memberLines form k met l ms
 
--- "Per storey, its `M` lines", "Then `S`": in case c
+-- "Per storey, its `M` lines", "Then `S`": in case l
 unfoldable pub caseLines : ℕ → ℕ → Storey → List Member → ℕ → List ℕ
-caseLines form k s ms c =
-    memberLines form k (meetsWallShare c (shearOf c s) ms) c ms ++ storeyLine form c (s .number) (findingIn publishedRules k s ms c)
+caseLines form k s ms l =
+    memberLines form k (meetsWallShare l (shearOf l s) ms) l ms ++ storeyLine form l (s .number) (findingIn publishedRules k s ms l)
 
--- "For each storey, case 1 to 4 in turn, the sheet prints its members and S line" (document 02, N3): n cases from case c on
+-- "For each storey, case 1 to 4 in turn, the sheet prints its members and S line" (document 02, N3): n cases from case l on
 unfoldable pub casesLines : ℕ → ℕ → Storey → List Member → ℕ → ℕ → List ℕ
-casesLines form k s ms c zero = []
-casesLines form k s ms c (suc n) = caseLines form k s ms c ++ casesLines form k s ms (suc c) n
+casesLines form k s ms l zero = []
+casesLines form k s ms l (suc n) = caseLines form k s ms l ++ casesLines form k s ms (suc l) n
 
 abbrev pub storeyLines : ℕ → ℕ → Storey → List Member → List ℕ
 storeyLines form k s ms = casesLines form k s ms 0 (caseCount form)

@@ -6,8 +6,8 @@ ghost use lib.ListN.{length};
 ghost use Rattle.records.specs.Records.{caseCount, shearOf, inCase};
 ghost use Rattle.members.specs.Finding.{finding};
 ghost use Rattle.storeys.specs.Building.{tilted};
-ghost use Rattle.storeys.specs.Totals.{foundBy};
 ghost use Rattle.storeys.specs.Tally.{withMember, AddsUp};
+ghost use Rattle.totals.specs.Totals.{foundBy};
 ghost use Rattle.columns.specs.Bytes.{stamped};
 ghost use Rattle.report.specs.Sheet.{memberLine, storeyLine, buildingLine};
 ghost use Rattle.report.specs.Printing.{front, begunAt, faultBy, Few, memberLineSize, storeyLineSize, buildingLineSize, caseSize};
@@ -30,13 +30,13 @@ use records::Storey;
 use records::numbers::case_count;
 use records::numbers::in_case;
 use records::numbers::shear_of;
-use storeys::StoreyFinding;
-use storeys::row::Tally;
-use storeys::row::add_finding;
-use storeys::row::finding_of;
-use storeys::row::no_tally;
 use storeys::verdict::building_risky;
 use storeys::verdict::is_tilted;
+use totals::StoreyFinding;
+use totals::Tally;
+use totals::adding::add_finding;
+use totals::adding::no_tally;
+use totals::finding::finding_of;
 
 // After some storeys: the next place in the bytes, and whether one of them is Risky.
 pub(crate) struct PrintedStoreys {

@@ -16,13 +16,14 @@ use Rattle.records.proofs.Firsts.{in-order-last, pick-zero, pick-other}
 use Rattle.records.proofs.Validity.{shear-most}
 use Rattle.members.specs.Class.{isWall}
 use Rattle.checks.specs.Rows.{countFault, memberIn, memberRowsFault}
-use Rattle.storeys.specs.declared.StoreyFinding.{StoreyFinding}
+use Rattle.totals.specs.declared.StoreyFinding.{StoreyFinding}
 use Rattle.storeys.specs.declared.StoreyAnswer.{StoreyAnswer}
 use Rattle.storeys.specs.declared.StoreyAnswer.the-variants.{Judged, JudgedCases, Refused}
-use Rattle.storeys.specs.declared.row.Tally.{Tally}
-use Rattle.storeys.specs.Storey.{publishedRules, wallShear, meetsWallShare, overShear, riskyByDamage, caseRisky, storeyRisky, storeyFinding, findingIn, levelFault, storeyCallFault, judgedBy, storeyAnswerBy, returnedStorey, storeyReturned}
-use Rattle.storeys.specs.Totals.{membersMost, shearMost, totalMost, foundBy, wallsFrom, wallsSuffice}
-use Rattle.storeys.specs.Tally.{tallyOf, Rows, casesBy, headFault}
+use Rattle.totals.specs.declared.Tally.{Tally}
+use Rattle.totals.specs.Totals.{wallShear}
+use Rattle.storeys.specs.Storey.{publishedRules, meetsWallShare, overShear, riskyByDamage, caseRisky, storeyRisky, storeyFinding, findingIn, levelFault, storeyCallFault, judgedBy, storeyAnswerBy, returnedStorey, storeyReturned}
+use Rattle.totals.specs.Totals.{membersMost, shearMost, totalMost, foundBy}
+use Rattle.storeys.specs.Tally.{tallyOf, Rows, casesBy, headFault, wallsFrom, wallsSuffice}
 use Rattle.storeys.proofs.Loops.{row-valid, pick-most}
 use Rattle.storeys.proofs.Shears.{over-shear-most}
 

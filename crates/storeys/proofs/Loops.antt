@@ -23,9 +23,9 @@ use Rattle.checks.specs.Rows.{memberIn}
 use Rattle.checks.proofs.Refusals.{one}
 use Rattle.checks.proofs.RowLaws.{row-good as good-row}
 use Rattle.records.specs.Blank.{noMember}
-use Rattle.storeys.specs.declared.row.Tally.{Tally}
-use Rattle.storeys.specs.Totals.{shearMost, totalMost, weightOf, noTally, addedWall, wallsFrom, metBy, wallsSuffice}
-use Rattle.storeys.specs.Tally.{withMember, tallyOf, Rows, AddsUp}
+use Rattle.totals.specs.declared.Tally.{Tally}
+use Rattle.totals.specs.Totals.{shearMost, totalMost, weightOf, noTally, addedWall, metBy}
+use Rattle.storeys.specs.Tally.{withMember, tallyOf, Rows, AddsUp, wallsFrom, wallsSuffice}
 use Rattle.storeys.proofs.Rows.{nd-most}
 
 -- ---- totals
@@ -80,15 +80,6 @@ module _ (c : ℕ) (rows : List Member) (t j : ℕ) (e : wallsFrom t c (drop j r
 pub suffice-is : (c : ℕ) (rows : List Member) (w t : ℕ) (z : Bool) → t ≡ wallsFrom 0 c rows → z ≡ metBy w t → z ≡ wallsSuffice c w rows
 unfolding wallsSuffice
 suffice-is c rows w t z e q = q ∙ rw e
-
-pub wall-most : (t r : ℕ) (m : MemberCase) → t ≤ totalMost + shearMost → r ≡ addedWall t m → r ≤ totalMost + shearMost
-wall-most t r m l q = rw q (go (leb t totalMost) (leb (m .case .shear) shearMost) (isWall m) refl refl)
-  where
-    go : (a b w : Bool) → leb t totalMost ≡ a → leb (m .case .shear) shearMost ≡ b → pick (a && b) (t + pick w (m .case .shear) 0) t ≤ totalMost + shearMost
-    go true true true e f = omega (arith, leb-true t totalMost e, leb-true (m .case .shear) shearMost f)
-    go true true false e f = omega (arith, leb-true t totalMost e)
-    go true false w e f = l
-    go false b w e f = l
 
 -- ---- all the totals
 abbrev pub weighed : ℕ → List Member → ℕ

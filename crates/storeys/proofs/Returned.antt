@@ -11,7 +11,7 @@ use Rattle.records.specs.declared.Storey.{Storey}
 use Rattle.records.specs.declared.Member.{Member}
 use Rattle.members.specs.Finding.{Returned}
 use Rattle.members.proofs.Returned.{flag-told}
-use Rattle.storeys.specs.declared.StoreyFinding.{StoreyFinding}
+use Rattle.totals.specs.declared.StoreyFinding.{StoreyFinding}
 use Rattle.storeys.specs.declared.StoreyFindings.{StoreyFindings}
 use Rattle.storeys.specs.declared.StoreyAnswer.{StoreyAnswer}
 use Rattle.storeys.specs.declared.StoreyAnswer.the-variants as storey

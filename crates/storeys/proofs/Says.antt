@@ -13,14 +13,14 @@ use borrow.Kind.ShrSlice.{pShrS}
 use Rattle.records.specs.Records.{caseCount, storeyFault, surveyOf}
 use Rattle.members.specs.Finding.{knowledge}
 use Rattle.storeys.specs.Storey.{publishedRules, findingIn, storeyRisky, storeyCallFault, judgedBy, returnedStorey, storeyReturned}
-use Rattle.storeys.specs.Totals.{wallsSuffice}
-use Rattle.storeys.specs.Tally.{tallyOf, Rows}
+use Rattle.storeys.specs.Tally.{tallyOf, Rows, wallsSuffice}
 use Rattle.storeys.specs.Building.{Answers as Answered}
 use Rattle.storeys.specs.Verdict.{verdictOf, GoodRows}
 use Rattle.walk.proofs.Fn.{Plain}
 use Rattle.walk.proofs.Slice.{R, taken, made}
 use Rattle.records.proofs.Structs.{header, member, storey}
-use Rattle.storeys.proofs.Structs.{tally as tallied, storeyfinding, storeyjudgment, verdict, buildingjudgment}
+use Rattle.totals.proofs.Structs.{tally as tallied, storeyfinding}
+use Rattle.storeys.proofs.Structs.{storeyjudgment, verdict, buildingjudgment}
 
 abbrev pub walls-suffice : Plain {n = 1} (pNum w64 ∷ pShrS (R member) 0 tt ∷ pNum w64 ∷ []) rBool
 walls-suffice = record {

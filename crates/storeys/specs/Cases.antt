@@ -8,6 +8,6 @@ abbrev pub RiskyInFirst : Type 0
 RiskyInFirst =
     (rules : Rules) (form k : ℕ) (s : Storey) (ms : List Member) → inCases form ≡ false → storeyRisky rules form k s ms ≡ caseRisky rules k 0 (shearOf 0 s) ms
 
--- a storey Risky by damage is Risky in every case c, whatever its storey shear w
+-- a storey Risky by damage is Risky in every case l, whatever its storey shear w
 abbrev pub DamagedInEvery : Type 0
-DamagedInEvery = (rules : Rules) (k c w : ℕ) (ms : List Member) → riskyByDamage ms ≡ true → caseRisky rules k c w ms ≡ true
+DamagedInEvery = (rules : Rules) (k l w : ℕ) (ms : List Member) → riskyByDamage ms ≡ true → caseRisky rules k l w ms ≡ true

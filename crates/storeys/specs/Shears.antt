@@ -20,9 +20,9 @@ threshold = 9_999_999_999
 -- of 200 members at most, each good by itself, in every case of their form, by any rules: the P that the sheet prints is no larger
 abbrev pub ShearBounded : Type 0
 ShearBounded =
-    (rules : Rules) (form k c : ℕ) (met : Bool) (ms : List Member) → c < caseCount form → memberRowsFault form ms ≡ 0 → length ms ≤ 200 → overShear rules k met c ms ≤ mostShear
+    (rules : Rules) (form k l : ℕ) (met : Bool) (ms : List Member) → l < caseCount form → memberRowsFault form ms ≡ 0 → length ms ≤ 200 → overShear rules k met l ms ≤ mostShear
 
 -- so of every storey of which the call refuses nothing
 abbrev pub NeverReached : Type 0
 NeverReached =
-    (rules : Rules) (form k c : ℕ) (met : Bool) (s : Storey) (ms : List Member) → c < caseCount form → storeyCallFault k form s ms ≡ 0 → overShear rules k met c ms < threshold
+    (rules : Rules) (form k l : ℕ) (met : Bool) (s : Storey) (ms : List Member) → l < caseCount form → storeyCallFault k form s ms ≡ 0 → overShear rules k met l ms < threshold

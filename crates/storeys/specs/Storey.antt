@@ -1,11 +1,12 @@
 -- The judgment of a storey (document 01, "Storey and building", "Refusals as returned"; document 02, N3): any storey record with any rows of members. What goes by
--- load case takes the case c, counted from 0.
-use Rattle.records.specs.Notation.{ℕ, _+_, _-_, _*_, Bool, _&&_, _||_, List, [], _∷_, _++_, _≡_, leb, ltb, eqb, length, pick, inOrder, total, anyOf, anyBelow}
-use Rattle.records.specs.{declared.Storey.Storey, declared.Member.Member, declared.MemberCase.MemberCase, Records.inCases, Records.knownForm, Records.caseCount, Records.shearOf, Records.caseOf, Records.inCase, Records.storeyFault}
+-- load case takes the case l, counted from 0.
+use Rattle.records.specs.Notation.{ℕ, _+_, _*_, Bool, _&&_, _||_, List, [], _∷_, _++_, leb, ltb, eqb, length, pick, inOrder, total, anyOf, anyBelow}
+use Rattle.records.specs.{declared.Storey.Storey, declared.Member.Member, Records.inCases, Records.knownForm, Records.caseCount, Records.shearOf, Records.caseOf, Records.inCase, Records.storeyFault}
 use Rattle.checks.specs.Rows.{countFault, memberRowsFault}
-use Rattle.members.specs.{declared.tables.Share.Share, declared.tables.LimitSet.LimitSet, declared.limits.Fraction.Fraction, Class.isWall, Tables.published, Tables.publishedShare, Limits.row, Limits.interp}
-use Rattle.members.specs.Finding.{axialRatioD, findingBy, knowledge, flag, Returned, found, refused}
-use Rattle.storeys.specs.declared.{StoreyFinding.StoreyFinding, StoreyFindings.StoreyFindings, StoreyAnswer.StoreyAnswer, StoreyAnswer.the-variants.Judged, StoreyAnswer.the-variants.JudgedCases, StoreyAnswer.the-variants.Refused}
+use Rattle.members.specs.{declared.tables.Share.Share, declared.tables.LimitSet.LimitSet, Tables.published, Tables.publishedShare}
+use Rattle.members.specs.Finding.{axial, findingBy, knowledge, flag, Returned, found, refused}
+use Rattle.totals.specs.{declared.StoreyFinding.StoreyFinding, Share.exceedsShare, Share.shareOf, Totals.wallShear}
+use Rattle.storeys.specs.declared.{StoreyFindings.StoreyFindings, StoreyAnswer.StoreyAnswer, StoreyAnswer.the-variants.Judged, StoreyAnswer.the-variants.JudgedCases, StoreyAnswer.the-variants.Refused}
 
 -- what a survey is judged by: the limits of the members, and the allowed share of a storey
 pub record Rules : Type 0 where
@@ -16,98 +17,75 @@ pub record Rules : Type 0 where
 abbrev pub publishedRules : Rules
 publishedRules = record { limits = published; share = publishedShare }
 
--- the V of a wall, and of a column nothing
-abbrev pub wallShear : MemberCase → ℕ
-wallShear m = pick (isWall m) (m .case .shear) 0
-
 -- "a storey whose walls' V total ≥ 0.40 × storey shear": all walls count, over or not
 unfoldable pub meetsWallShare : ℕ → ℕ → List Member → Bool
-meetsWallShare c w ms = leb (2 * w) (5 * total (λ m. wallShear (inCase c m)) ms)
+meetsWallShare l w ms = leb (2 * w) (5 * total (λ m. wallShear (inCase l m)) ms)
 
 -- "Σ the total of n_D": "N_D enter[s] once", the same in every case
 abbrev pub memberAxial : Member → ℕ
-memberAxial m = axialRatioD (inCase 0 m) .0
+memberAxial m = axial (m .nd) (m .fcm) (m .area) .0
 
 unfoldable pub axialTotal : List Member → ℕ
 axialTotal ms = total memberAxial ms
 
 -- a member is over, judged with k and the 0.40 condition of its storey
 abbrev pub over : Rules → ℕ → Bool → ℕ → Member → Bool
-over rules k met c m = findingBy (rules .limits) k met (inCase c m) .over
+over rules k met l m = findingBy (rules .limits) k met (inCase l m) .over
 
 -- the V of a member that is over, and of another nothing
 abbrev pub shearIfOver : Rules → ℕ → Bool → ℕ → Member → ℕ
-shearIfOver rules k met c m = pick (over rules k met c m) (caseOf c m .shear) 0
+shearIfOver rules k met l m = pick (over rules k met l m) (caseOf l m .shear) 0
 
 -- "P the total of V over members that are over"
 unfoldable pub overShear : Rules → ℕ → Bool → ℕ → List Member → ℕ
-overShear rules k met c ms = total (shearIfOver rules k met c) ms
+overShear rules k met l ms = total (shearIfOver rules k met l) ms
 
 -- "some member is over"
 unfoldable pub someOver : Rules → ℕ → Bool → ℕ → List Member → Bool
-someOver rules k met c ms = anyOf (over rules k met c) ms
+someOver rules k met l ms = anyOf (over rules k met l) ms
 
 -- "h being the numbers of members with each damage kind"
 unfoldable pub damaged : ℕ → List Member → ℕ
 damaged kind ms = total (λ m. flag (eqb (m .damage) kind)) ms
 
--- the allowed share in hundredths, at the axial ratios Σ of c members: linear between the ends and constant outside
-unfoldable pub allowedShare : Share → ℕ → ℕ → Fraction
-allowedShare share σ c =
-    interp (row (share .ends .r1 * c) (share .shares .r1)) (row (share .ends .r2 * c) (share .shares .r2) ∷ []) σ
-
--- "P / W exceeds it"
-unfoldable pub exceedsShare : Share → ℕ → ℕ → ℕ → ℕ → Bool
-exceedsShare share σ c p w = ltb (w * allowedShare share σ c .num) (100 * p * allowedShare share σ c .den)
-
--- "0.35 while Σ ≤ 10,000 × c, 0 from Σ = 65,000 × c, and 7 × (65,000 × c − Σ) / (1,100,000 × c) between": what the published share comes to (law `published-share`)
-abbrev pub PublishedShare : Type 0
-PublishedShare =
-    (σ c p w : ℕ) → exceedsShare publishedShare σ c p w ≡ pick (leb σ (10_000 * c)) (ltb (7 * w) (20 * p)) (pick (leb (65_000 * c) σ) (ltb 0 p)
-    (ltb (7 * w * (65_000 * c - σ)) (1_100_000 * c * p)))
-
 -- "20 × h1 + 28 × h2 + 35 × h3 + 140 × h4 ≥ 7 × c"
 unfoldable pub riskyByDamage : List Member → Bool
 riskyByDamage ms = leb (7 * length ms) (20 * damaged 1 ms + 28 * damaged 2 ms + 35 * damaged 3 ms + 140 * damaged 4 ms)
 
--- the three rules by which a storey is Risky in case c with the storey shear w: "P / W exceeds it; or Σ > 65,000 × c and some member is over; or" by its damage
+-- the three rules by which a storey is Risky in case l with the storey shear w: "P / W exceeds it; or Σ > 65,000 × c and some member is over; or" by its damage
 abbrev pub riskyByShare : Rules → ℕ → ℕ → ℕ → List Member → Bool
-riskyByShare rules k c w ms = exceedsShare (rules .share) (axialTotal ms) (length ms) (overShear rules k (meetsWallShare c w ms) c ms) w
+riskyByShare rules k l w ms = exceedsShare (rules .share) (axialTotal ms) (length ms) (overShear rules k (meetsWallShare l w ms) l ms) w
 
 abbrev pub riskyByOneOver : Rules → ℕ → ℕ → ℕ → List Member → Bool
-riskyByOneOver rules k c w ms = ltb (rules .share .ends .r2 * length ms) (axialTotal ms) && someOver rules k (meetsWallShare c w ms) c ms
+riskyByOneOver rules k l w ms = ltb (rules .share .ends .r2 * length ms) (axialTotal ms) && someOver rules k (meetsWallShare l w ms) l ms
 
--- Risky in case c: "One Risky by damage is so in every case" (document 02, N3)
+-- Risky in case l: "One Risky by damage is so in every case" (document 02, N3)
 unfoldable pub caseRisky : Rules → ℕ → ℕ → ℕ → List Member → Bool
-caseRisky rules k c w ms = riskyByShare rules k c w ms || (riskyByOneOver rules k c w ms || riskyByDamage ms)
+caseRisky rules k l w ms = riskyByShare rules k l w ms || (riskyByOneOver rules k l w ms || riskyByDamage ms)
 
 -- "A storey is Risky when it is in some case" (document 02, N3)
 unfoldable pub storeyRisky : Rules → ℕ → ℕ → Storey → List Member → Bool
-storeyRisky rules form k s ms = anyBelow (λ c. caseRisky rules k c (shearOf c s) ms) (caseCount form)
+storeyRisky rules form k s ms = anyBelow (λ l. caseRisky rules k l (shearOf l s) ms) (caseCount form)
 
--- the allowed share as the two numbers of which it is the quotient
-abbrev pub shareOf : Share → ℕ → ℕ → Fraction
-shareOf share σ c = record { num = allowedShare share σ c .num; den = 100 * allowedShare share σ c .den }
-
--- what a storey is found to be in case c
+-- what a storey is found to be in case l
 unfoldable pub storeyFinding : Rules → ℕ → ℕ → ℕ → List Member → StoreyFinding
-storeyFinding rules k c w ms =
+storeyFinding rules k l w ms =
     record {
       «axial_total» = axialTotal ms;
       members = length ms;
-      «over_shear» = overShear rules k (meetsWallShare c w ms) c ms;
+      «over_shear» = overShear rules k (meetsWallShare l w ms) l ms;
       shear = w;
-      risky = caseRisky rules k c w ms;
-      «walls_suffice» = meetsWallShare c w ms;
-      «by_share» = riskyByShare rules k c w ms;
-      «by_one_over» = riskyByOneOver rules k c w ms;
+      risky = caseRisky rules k l w ms;
+      «walls_suffice» = meetsWallShare l w ms;
+      «by_share» = riskyByShare rules k l w ms;
+      «by_one_over» = riskyByOneOver rules k l w ms;
       «by_damage» = riskyByDamage ms;
       allowed = shareOf (rules .share) (axialTotal ms) (length ms);
     }
 
--- in case c, with that case's storey shear
+-- in case l, with that case's storey shear
 abbrev pub findingIn : Rules → ℕ → Storey → List Member → ℕ → StoreyFinding
-findingIn rules k s ms c = storeyFinding rules k c (shearOf c s) ms
+findingIn rules k s ms l = storeyFinding rules k l (shearOf l s) ms
 
 abbrev pub storeyFindings : Rules → ℕ → Storey → List Member → StoreyFindings
 storeyFindings rules k s ms =

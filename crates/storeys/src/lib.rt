@@ -5,28 +5,7 @@ pub mod row;
 pub mod storey;
 pub mod verdict;
 
-use members::limits::Fraction;
-
-// What a storey is found to be in one load case.
-pub struct StoreyFinding {
-    // Σ, the total of n_D
-    pub axial_total: u64,
-    // c, how many members it has
-    pub members: u64,
-    // P, the total of V over the members that are over
-    pub over_shear: u64,
-    // W, the storey shear
-    pub shear: u64,
-    pub risky: bool,
-    // its walls carry at least 0.40 of the storey shear
-    pub walls_suffice: bool,
-    // which rule makes it Risky: P / W above the allowed share; a member over while Σ is above the second end of the share; damage
-    pub by_share: bool,
-    pub by_one_over: bool,
-    pub by_damage: bool,
-    // the allowed share is the quotient of these two
-    pub allowed: Fraction,
-}
+use totals::StoreyFinding;
 
 // In each of four load cases; Risky where it is in some case.
 pub struct StoreyFindings {

@@ -5,19 +5,12 @@ ghost use Prim.Native.Nat.{_<_};
 ghost use Rattle.records.specs.Records.{caseCount, storeyFault};
 ghost use Rattle.members.specs.Finding.{knowledge};
 ghost use Rattle.storeys.specs.Storey.{publishedRules, findingIn, storeyCallFault, storeyRisky, judgedBy, returnedStorey, storeyReturned};
-ghost use Rattle.storeys.specs.Totals.{wallsSuffice};
-ghost use Rattle.storeys.specs.Tally.{tallyOf, Rows};
-use crate::StoreyFinding;
+ghost use Rattle.storeys.specs.Tally.{tallyOf, Rows, wallsSuffice};
 use crate::StoreyJudgment;
-use crate::row::Tally;
 use crate::row::add_row;
-use crate::row::add_wall;
-use crate::row::finding_of;
 use crate::row::head_fault;
 use crate::row::judged_cases;
 use crate::row::judged_storey;
-use crate::row::meets;
-use crate::row::no_tally;
 use crate::row::refused_storey;
 use crate::row::risky_so_far;
 use checks::members_fault;
@@ -26,6 +19,12 @@ use records::Member;
 use records::Storey;
 use records::numbers::case_count;
 use records::numbers::shear_of;
+use totals::StoreyFinding;
+use totals::Tally;
+use totals::adding::add_wall;
+use totals::adding::no_tally;
+use totals::finding::finding_of;
+use totals::finding::meets;
 
 // The walls of a storey carry at least 0.40 of its shear in case c, counted from 0.
 pub fn walls_suffice(shear: u64, rows: &[Member], c: usize) -> bool

@@ -1,8 +1,8 @@
 use mathlib.Core.Bool.{_||_}
 use mathlib.Core.Path.{ap, _∙_}
 use Rattle.records.specs.Records.{shearOf}
-use Rattle.storeys.specs.Totals.{foundBy}
-use Rattle.storeys.specs.declared.StoreyFinding.{StoreyFinding}
+use Rattle.totals.specs.Totals.{foundBy}
+use Rattle.totals.specs.declared.StoreyFinding.{StoreyFinding}
 use Rattle.report.proofs.Printing.{storey-line-of}
 use borrow.Author.Needs.{needs}
 use Rattle.report.proofs.printed.put_totals.Statement.{statement}

@@ -22,7 +22,7 @@ use Rattle.records.proofs.numbers.shear_of.Met as shear-of-met
 use Rattle.records.proofs.numbers.shear_of.Symbol as shear-of-symbol
 use Rattle.records.proofs.numbers.shear_of.Kinds as shear-of-kinds
 use Rattle.records.proofs.numbers.shear_of.Reads as shear-of-reads
-use Rattle.storeys.specs.Totals.{wallsSuffice}
+use Rattle.storeys.specs.Tally.{wallsSuffice}
 use Rattle.storeys.proofs.storey.walls_suffice.Met as walls-suffice-met
 use Rattle.storeys.proofs.storey.walls_suffice.Symbol as walls-suffice-symbol
 use Rattle.storeys.proofs.Accepted.{storey-level, storey-rows}

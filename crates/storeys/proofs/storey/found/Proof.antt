@@ -18,16 +18,16 @@ use Rattle.records.proofs.numbers.shear_of.Met as shear-of-met
 use Rattle.records.proofs.numbers.shear_of.Symbol as shear-of-symbol
 use Rattle.records.proofs.numbers.shear_of.Kinds as shear-of-kinds
 use Rattle.records.proofs.numbers.shear_of.Reads as shear-of-reads
-use Rattle.storeys.proofs.Structs.{storeyfinding, tally}
+use Rattle.totals.proofs.Structs.{storeyfinding, tally}
 use Rattle.storeys.proofs.storey.walls_suffice.Met as walls-suffice-met
 use Rattle.storeys.proofs.storey.walls_suffice.Symbol as walls-suffice-symbol
 use Rattle.storeys.proofs.Says as Says
 use Rattle.storeys.proofs.storey.tally.Met as tally-met
 use Rattle.storeys.proofs.storey.tally.Symbol as tally-symbol
-use Rattle.storeys.proofs.row.finding_of.Met as finding-of-met
-use Rattle.storeys.proofs.row.finding_of.Symbol as finding-of-symbol
-use Rattle.storeys.proofs.row.finding_of.Kinds as finding-of-kinds
-use Rattle.storeys.proofs.row.finding_of.Reads as finding-of-reads
+use Rattle.totals.proofs.finding.finding_of.Met as finding-of-met
+use Rattle.totals.proofs.finding.finding_of.Symbol as finding-of-symbol
+use Rattle.totals.proofs.finding.finding_of.Kinds as finding-of-kinds
+use Rattle.totals.proofs.finding.finding_of.Reads as finding-of-reads
 use Rattle.storeys.proofs.storey.found.Code
 use Rattle.storeys.proofs.storey.found.Key
 use Rattle.storeys.proofs.storey.found.Statement.{statement}
@@ -85,5 +85,5 @@ found-spec {M} 𝓤 H 𝓜 𝓖 𝓡 = let w : World = record { M = M; 𝓤 = �
       shear-of-reads.known w Code.env shear-of-symbol.name shear-of-symbol.routine Code.calls-records·numbers·shear-of (shear-of-met.met 𝓤 H 𝓜 𝓖 𝓡),
       knows Says.walls-suffice w Code.env walls-suffice-symbol.name walls-suffice-symbol.routine Code.calls-storeys·storey·walls-suffice (walls-suffice-met.met 𝓤 H 𝓜 𝓖 𝓡),
       knows Says.tally w Code.env tally-symbol.name tally-symbol.routine Code.calls-storeys·storey·tally (tally-met.met 𝓤 H 𝓜 𝓖 𝓡),
-      finding-of-reads.known w Code.env finding-of-symbol.name finding-of-symbol.routine Code.calls-storeys·row·finding-of (finding-of-met.met 𝓤 H 𝓜 𝓖 𝓡),
+      finding-of-reads.known w Code.env finding-of-symbol.name finding-of-symbol.routine Code.calls-totals·finding·finding-of (finding-of-met.met 𝓤 H 𝓜 𝓖 𝓡),
     )

@@ -20,7 +20,7 @@ use Rattle.walk.proofs.Walk.{S, _⨾_, _▸_, told, at, from, set, op2, lit, cp
 use Rattle.walk.proofs.Slice.{R, kept, full, here, val-at, sh-at, sh-spares, sh-reads}
 use Rattle.walk.proofs.Fn.{Callee, Knows, Body, Answers, entry, callee, knows, call, meets}
 use Rattle.records.proofs.Structs.{member, storey}
-use Rattle.storeys.proofs.Structs.{storeyfinding}
+use Rattle.totals.proofs.Structs.{storeyfinding}
 use Rattle.storeys.proofs.Called.{risky-in, risky-none, risky-next, risky-all}
 use Rattle.storeys.proofs.Says as Says
 use Rattle.records.proofs.numbers.case_count.Met as case-count-met

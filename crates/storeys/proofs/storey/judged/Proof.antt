@@ -15,7 +15,8 @@ use Rattle.walk.proofs.Slice.{R, kept, full, here, val-at, sh-at, sh-spares, sh
 use Rattle.walk.proofs.Fn.{Callee, Knows, Body, Answers, entry, callee, knows, call, meets}
 use Rattle.records.proofs.Cases.{cases-least}
 use Rattle.records.proofs.Structs.{member, storey}
-use Rattle.storeys.proofs.Structs.{storeyfinding, storeyjudgment}
+use Rattle.totals.proofs.Structs.{storeyfinding}
+use Rattle.storeys.proofs.Structs.{storeyjudgment}
 use Rattle.storeys.proofs.Accepted.{storey-level, storey-good, storey-rows}
 use Rattle.storeys.proofs.Called.{case-of-four, judged-one, judged-four}
 use Rattle.storeys.proofs.Says as Says

@@ -6,7 +6,7 @@ use mathlib.Core.Path.{refl}
 use lib.ListN.{length}
 use borrow.Author.Tests.{ltb-true, ltb-false}
 use Rattle.records.specs.Blank.{noMember}
-use Rattle.storeys.specs.declared.row.Tally.{Tally}
+use Rattle.totals.specs.declared.Tally.{Tally}
 use Rattle.storeys.proofs.Loops.{Going, going-none, tally-room, going-next, going-all}
 use contract.Lifetimes.{Lfts, Shares}
 use contract.Running.{tablesOf}
@@ -20,12 +20,12 @@ use Rattle.walk.proofs.Walk.{S, _⨾_, _▸_, told, at, from, set, op2, lit, cp
 use Rattle.walk.proofs.Slice.{R, kept, full, here, sh-ptr, sh-len, val-at, copy-val, elem-out}
 use Rattle.walk.proofs.Fn.{Callee, Knows, Body, Answers, entry, call, meets}
 use Rattle.records.proofs.Structs.{member, member-bytes}
-use Rattle.storeys.proofs.Structs.{tally}
+use Rattle.totals.proofs.Structs.{tally}
 use Rattle.storeys.proofs.Says as Says
-use Rattle.storeys.proofs.row.no_tally.Met as no-tally-met
-use Rattle.storeys.proofs.row.no_tally.Symbol as no-tally-symbol
-use Rattle.storeys.proofs.row.no_tally.Kinds as no-tally-kinds
-use Rattle.storeys.proofs.row.no_tally.Reads as no-tally-reads
+use Rattle.totals.proofs.adding.no_tally.Met as no-tally-met
+use Rattle.totals.proofs.adding.no_tally.Symbol as no-tally-symbol
+use Rattle.totals.proofs.adding.no_tally.Kinds as no-tally-kinds
+use Rattle.totals.proofs.adding.no_tally.Reads as no-tally-reads
 use Rattle.storeys.proofs.row.add_row.Met as add-row-met
 use Rattle.storeys.proofs.row.add_row.Symbol as add-row-symbol
 use Rattle.storeys.proofs.row.add_row.Kinds as add-row-kinds
@@ -100,6 +100,6 @@ pub tally-spec : {M : Type 1} → statement M
 unfolding Code.routine tablesOf
 tally-spec {M} 𝓤 H 𝓜 𝓖 𝓡 = let w : World = record { M = M; 𝓤 = 𝓤; H = H; 𝓜 = 𝓜; 𝓖 = 𝓖; 𝓡 = 𝓡 } in
     meets Says.tally K 0 Code.function body answers w Code.env Key.name (Code.unfolded 𝓤 H 𝓜 𝓡) (
-      no-tally-reads.known w Code.env no-tally-symbol.name no-tally-symbol.routine Code.calls-storeys·row·no-tally (no-tally-met.met 𝓤 H 𝓜 𝓖 𝓡),
+      no-tally-reads.known w Code.env no-tally-symbol.name no-tally-symbol.routine Code.calls-totals·adding·no-tally (no-tally-met.met 𝓤 H 𝓜 𝓖 𝓡),
       add-row-reads.known w Code.env add-row-symbol.name add-row-symbol.routine Code.calls-storeys·row·add-row (add-row-met.met 𝓤 H 𝓜 𝓖 𝓡),
     )

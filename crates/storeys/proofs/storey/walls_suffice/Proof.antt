@@ -1,14 +1,12 @@
-use Prim.Native.Nat.{ℕ, _+_, _-_, _≤_}
+use Prim.Native.Nat.{ℕ, _+_, _-_}
 use native.Mathlib.Omega.{arith}
 use mathlib.Core.List.{[]}
 use mathlib.Core.Path.{_≡_, refl}
 use lib.ListN.{length, drop}
 use borrow.Author.Tests.{ltb-true, ltb-false}
 use Rattle.records.specs.Blank.{noMember}
-use Rattle.records.specs.Records.{inCase}
-use Rattle.checks.specs.Rows.{memberIn}
-use Rattle.storeys.specs.Totals.{totalMost, shearMost, wallsFrom}
-use Rattle.storeys.proofs.Loops.{wall-next, wall-all, wall-most, suffice-is}
+use Rattle.storeys.specs.Tally.{wallsFrom}
+use Rattle.storeys.proofs.Loops.{wall-next, wall-all, suffice-is}
 use contract.Lifetimes.{Lfts, Shares}
 use contract.Running.{tablesOf}
 use mir.Syntax.{w64, unsigned, mul, add, lt, offset}
@@ -22,14 +20,14 @@ use Rattle.walk.proofs.Slice.{R, kept, full, here, sh-ptr, sh-len, val-at, elem
 use Rattle.walk.proofs.Fn.{Callee, Knows, Body, Answers, entry, call, meets}
 use Rattle.records.proofs.Structs.{member, member-bytes}
 use Rattle.storeys.proofs.Says as Says
-use Rattle.storeys.proofs.row.add_wall.Met as add-wall-met
-use Rattle.storeys.proofs.row.add_wall.Symbol as add-wall-symbol
-use Rattle.storeys.proofs.row.add_wall.Kinds as add-wall-kinds
-use Rattle.storeys.proofs.row.add_wall.Reads as add-wall-reads
-use Rattle.storeys.proofs.row.meets.Met as meets-met
-use Rattle.storeys.proofs.row.meets.Symbol as meets-symbol
-use Rattle.storeys.proofs.row.meets.Kinds as meets-kinds
-use Rattle.storeys.proofs.row.meets.Reads as meets-reads
+use Rattle.totals.proofs.adding.add_wall.Met as add-wall-met
+use Rattle.totals.proofs.adding.add_wall.Symbol as add-wall-symbol
+use Rattle.totals.proofs.adding.add_wall.Kinds as add-wall-kinds
+use Rattle.totals.proofs.adding.add_wall.Reads as add-wall-reads
+use Rattle.totals.proofs.finding.meets.Met as meets-met
+use Rattle.totals.proofs.finding.meets.Symbol as meets-symbol
+use Rattle.totals.proofs.finding.meets.Kinds as meets-kinds
+use Rattle.totals.proofs.finding.meets.Reads as meets-reads
 use Rattle.storeys.proofs.storey.walls_suffice.Code
 use Rattle.storeys.proofs.storey.walls_suffice.Key
 use Rattle.storeys.proofs.storey.walls_suffice.Statement.{statement}
@@ -57,7 +55,7 @@ body κs qs bs =
     set 4 u64 (lit w64 0 tt) gone refl (λ u. refl) (λ u. tt) ⨾
     set 5 u64 (lit w64 0 tt) gone refl (λ u. refl) (λ u. tt) ⨾
     from (cx1 κs qs) (while (λ (vs : ℕ × ℕ) u. (u .0, (u .1 .0, (u .1 .1 .0, (u .1 .1 .1 .0, (vs .0, (vs .1, u .1 .1 .1 .1 .1 .1)))))))
-    (λ u vs. (wallsFrom (vs .0) (u .1 .1 .1 .0) (drop (vs .1) (u .1 .1 .0 .now)) ≡ wallsFrom 0 (u .1 .1 .1 .0) (u .1 .1 .0 .now)) × (vs .0 ≤ totalMost + shearMost))
+    (λ u vs. wallsFrom (vs .0) (u .1 .1 .1 .0) (drop (vs .1) (u .1 .1 .0 .now)) ≡ wallsFrom 0 (u .1 .1 .1 .0) (u .1 .1 .0 .now))
     (λ u vs. length (u .1 .1 .0 .now) - vs .1)
     (set 6 u64 (fld 2 1 (sh-len (R member) 0) refl) gone refl (λ u. refl) (λ u. tt) ⨾
     op2 7 sBool (lt unsigned) (cp 5 (sc u64)) (cp 6 (sc u64)) gone refl (λ u. refl) (λ u. tt) ⨾
@@ -80,13 +78,13 @@ body κs qs bs =
 
 answers : Answers Says.walls-suffice K 0 Code.function body
 answers κs qs a good pre bs = (
-  ((0, 0), refl, (refl, omega arith)),
+  ((0, 0), refl, refl),
   λ vs inv. (
     tt,
     (
       λ taken. told (ltb-true (vs .1) (length (a .1 .0 .now)) taken) λ l.
-          (search needs, (tt, ((refl, refl, l), λ _. (λ _. tt, λ g. (search needs, (length (a .1 .0 .now) - (vs .1 + 1), omega arith, ((g .1, vs .1 + 1), refl, (wall-next (a .1 .1 .0) (a .1 .0 .now) (vs .0) (vs .1) (inv .0) (g .1) l (g .5), wall-most (vs .0) (g .1) (inCase (a .1 .1 .0) (memberIn (a .1 .0 .now) (vs .1))) (inv .1) (g .5)), refl))))))),
-      λ left. (λ _. inv .1, λ m. ((tt, (refl, (tt, tt))), suffice-is (a .1 .1 .0) (a .1 .0 .now) (a .0) (vs .0) (m .1) (wall-all (a .1 .1 .0) (a .1 .0 .now) (vs .0) (vs .1) (inv .0) (ltb-false (vs .1) (length (a .1 .0 .now)) left)) (m .5))),
+          (search needs, (tt, ((refl, refl, l), λ _. (λ _. tt, λ g. (search needs, (length (a .1 .0 .now) - (vs .1 + 1), omega arith, ((g .1, vs .1 + 1), refl, wall-next (a .1 .1 .0) (a .1 .0 .now) (vs .0) (vs .1) inv (g .1) l (g .5), refl))))))),
+      λ left. (λ _. tt, λ m. ((tt, (refl, (tt, tt))), suffice-is (a .1 .1 .0) (a .1 .0 .now) (a .0) (vs .0) (m .1) (wall-all (a .1 .1 .0) (a .1 .0 .now) (vs .0) (vs .1) inv (ltb-false (vs .1) (length (a .1 .0 .now)) left)) (m .5))),
     ),
   ),
 )
@@ -95,6 +93,6 @@ pub walls-suffice-spec : {M : Type 1} → statement M
 unfolding Code.routine tablesOf
 walls-suffice-spec {M} 𝓤 H 𝓜 𝓖 𝓡 = let w : World = record { M = M; 𝓤 = 𝓤; H = H; 𝓜 = 𝓜; 𝓖 = 𝓖; 𝓡 = 𝓡 } in
     meets Says.walls-suffice K 0 Code.function body answers w Code.env Key.name (Code.unfolded 𝓤 H 𝓜 𝓡) (
-      add-wall-reads.known w Code.env add-wall-symbol.name add-wall-symbol.routine Code.calls-storeys·row·add-wall (add-wall-met.met 𝓤 H 𝓜 𝓖 𝓡),
-      meets-reads.known w Code.env meets-symbol.name meets-symbol.routine Code.calls-storeys·row·meets (meets-met.met 𝓤 H 𝓜 𝓖 𝓡),
+      add-wall-reads.known w Code.env add-wall-symbol.name add-wall-symbol.routine Code.calls-totals·adding·add-wall (add-wall-met.met 𝓤 H 𝓜 𝓖 𝓡),
+      meets-reads.known w Code.env meets-symbol.name meets-symbol.routine Code.calls-totals·finding·meets (meets-met.met 𝓤 H 𝓜 𝓖 𝓡),
     )
