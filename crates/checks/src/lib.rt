@@ -9,7 +9,6 @@ ghost use Rattle.records.specs.Records.{surveyOf};
 ghost use Rattle.records.specs.Notation.{pick, anyBelow, first, total};
 ghost use Rattle.checks.specs.Rows.{memberIn, memberRowsFault, storeyIn, storeyRowsFault, recordsFault};
 ghost use Rattle.checks.specs.RowChecks.{Counted};
-use crate::row::form_of;
 use crate::row::header_call_fault;
 use crate::row::number_of;
 use crate::row::row_fault;
@@ -19,6 +18,7 @@ use records::Header;
 use records::Member;
 use records::Storey;
 use records::numbers::count_of;
+use records::numbers::form_of;
 
 // 5 where one of the first n members has the number v.
 fn repeat_fault(rows: &[Member], n: usize, v: u64) -> u64

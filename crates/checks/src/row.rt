@@ -17,12 +17,6 @@ pub(crate) fn number_of(m: Member) -> u64
     m.number
 }
 
-pub(crate) fn form_of(h: Header) -> u64
-    ensures { λ r. ⌜ r ≡ h .form ⌝ }
-{
-    h.form
-}
-
 pub(crate) fn storey_number(s: Storey) -> u64
     ensures { λ r. ⌜ r ≡ s .number ⌝ }
 {

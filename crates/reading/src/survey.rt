@@ -130,7 +130,7 @@ fn checked_line(s: &[u8], at: usize, kind: Kind, held: bool) -> Line
 }
 
 // The form of a file, by the length of its first S line.
-fn form_of(s: &[u8]) -> u64
+fn file_form(s: &[u8]) -> u64
     ensures { λ r. ⌜ r ≡ formOf (now (s .entry)) ⌝ }
 {
     if line_length(s, HEADER_SIZE) == STOREY_CASES_SIZE - 1 {
@@ -144,7 +144,7 @@ pub(crate) fn header_line(s: &[u8]) -> HeaderLine
 {
     let l = checked_line(s, 0, Kind::B, true);
     let vs = l.values;
-    let h = header_of(form_of(s), vs);
+    let h = header_of(file_form(s), vs);
     HeaderLine {
         fault: earlier(l.fault, header_fault(h)),
         header: h,

@@ -29,9 +29,9 @@ use records::Member;
 use records::Storey;
 use records::numbers::case_count;
 use records::numbers::count_of;
+use records::numbers::form_of;
 use records::numbers::shear_of;
 use storeys::storey::walls_suffice;
-use storeys::verdict::form_of;
 use storeys::verdict::level_of;
 
 // The good members of a storey of a form, each judged once in case c with k and the storey's 0.40 condition: their lines and their totals.

@@ -8,7 +8,6 @@ ghost use Rattle.storeys.specs.Verdict.{verdictOf, GoodRows};
 use crate::BuildingJudgment;
 use crate::storey::found_risky;
 use crate::verdict::Verdict;
-use crate::verdict::form_of;
 use crate::verdict::judged_building;
 use crate::verdict::level_of;
 use crate::verdict::no_verdict;
@@ -19,6 +18,7 @@ use records::Header;
 use records::Member;
 use records::Storey;
 use records::numbers::count_of;
+use records::numbers::form_of;
 
 // What is found of good storeys of a form, k being the knowledge level.
 fn storeys_verdict(form: u64, k: u64, storeys: &[Storey], members: &[Member]) -> Verdict

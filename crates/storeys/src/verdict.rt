@@ -50,12 +50,6 @@ pub fn level_of(h: Header) -> u64
     h.knowledge
 }
 
-pub fn form_of(h: Header) -> u64
-    ensures { λ r. ⌜ r ≡ h .form ⌝ }
-{
-    h.form
-}
-
 // The larger tilt is above 25,000.
 pub fn is_tilted(h: Header) -> bool
     ensures { λ r. ⌜ r ≡ tilted h ⌝ }

@@ -10,7 +10,6 @@ ghost use Rattle.writing.specs.Writing.{returnedFile, fileReturned, file
 ghost use Rattle.checks.specs.RowChecks.{Counted};
 use crate::Writing;
 use crate::lines::file_fault;
-use crate::lines::form_of;
 use crate::lines::put_header;
 use crate::lines::put_member;
 use crate::lines::put_storey;
@@ -21,6 +20,7 @@ use records::Header;
 use records::Member;
 use records::Storey;
 use records::numbers::count_of;
+use records::numbers::form_of;
 
 // The lines of some members of a form.
 fn put_members(out: &mut [u8], at: usize, form: u64, rows: &[Member]) -> usize

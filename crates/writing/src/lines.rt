@@ -264,13 +264,6 @@ pub(crate) fn file_fault(fault: u64, form: u64, storeys: usize, members: usize, 
     11
 }
 
-// The form that a header tells.
-pub(crate) fn form_of(h: Header) -> u64
-    ensures { λ r. ⌜ r ≡ h .form ⌝ }
-{
-    h.form
-}
-
 pub(crate) fn refused_file(number: u64) -> Writing
     ensures { λ r. ⌜ r .answer ≡ WriteAnswer.Refused number ⌝ }
 {

@@ -22,10 +22,10 @@ use Rattle.checks.proofs.row.header_call_fault.Met as header-call-fault
 use Rattle.checks.proofs.row.header_call_fault.Symbol as header-call-fault-symbol
 use Rattle.checks.proofs.row.header_call_fault.Kinds as header-call-fault-kinds
 use Rattle.checks.proofs.row.header_call_fault.Reads as header-call-fault-reads
-use Rattle.checks.proofs.row.form_of.Met as form-of-met
-use Rattle.checks.proofs.row.form_of.Symbol as form-of-symbol
-use Rattle.checks.proofs.row.form_of.Kinds as form-of-kinds
-use Rattle.checks.proofs.row.form_of.Reads as form-of-reads
+use Rattle.records.proofs.numbers.form_of.Met as form-of-met
+use Rattle.records.proofs.numbers.form_of.Symbol as form-of-symbol
+use Rattle.records.proofs.numbers.form_of.Kinds as form-of-kinds
+use Rattle.records.proofs.numbers.form_of.Reads as form-of-reads
 use Rattle.checks.proofs.rows_fault.Met as rows-fault-met
 use Rattle.checks.proofs.rows_fault.Symbol as rows-fault-symbol
 use Rattle.checks.proofs.records_fault.Code
@@ -104,6 +104,6 @@ records-fault-spec {M} 𝓤 H 𝓜 𝓖 𝓡 = let w : World = record { M = M; �
     meets Says.records-fault K 0 Code.function body answers w Code.env Key.name (Code.unfolded 𝓤 H 𝓜 𝓡) (
       knows Says.counts-fit w Code.env counts-fit-symbol.name counts-fit-symbol.routine Code.calls-checks·counts-fit (counts-fit-met.met 𝓤 H 𝓜 𝓖 𝓡),
       header-call-fault-reads.known w Code.env header-call-fault-symbol.name header-call-fault-symbol.routine Code.calls-checks·row·header-call-fault (header-call-fault-met.met 𝓤 H 𝓜 𝓖 𝓡),
-      form-of-reads.known w Code.env form-of-symbol.name form-of-symbol.routine Code.calls-checks·row·form-of (form-of-met.met 𝓤 H 𝓜 𝓖 𝓡),
+      form-of-reads.known w Code.env form-of-symbol.name form-of-symbol.routine Code.calls-records·numbers·form-of (form-of-met.met 𝓤 H 𝓜 𝓖 𝓡),
       knows Says.rows-fault w Code.env rows-fault-symbol.name rows-fault-symbol.routine Code.calls-checks·rows-fault (rows-fault-met.met 𝓤 H 𝓜 𝓖 𝓡),
     )

@@ -27,10 +27,10 @@ use Rattle.walk.proofs.Slice.{ty, sh-at, R, kept, full, here, sh-ptr, sh-len, v
 use Rattle.walk.proofs.Array.{begin, end, over}
 use Rattle.walk.proofs.Fn.{Callee, Knows, Body, Answers, entry, callee, knows, call, meets}
 use Rattle.records.proofs.Structs.{header, member, storey, member-bytes, storey-bytes}
-use Rattle.storeys.proofs.verdict.form_of.Met as form-of-met
-use Rattle.storeys.proofs.verdict.form_of.Symbol as form-of-symbol
-use Rattle.storeys.proofs.verdict.form_of.Kinds as form-of-kinds
-use Rattle.storeys.proofs.verdict.form_of.Reads as form-of-reads
+use Rattle.records.proofs.numbers.form_of.Met as form-of-met
+use Rattle.records.proofs.numbers.form_of.Symbol as form-of-symbol
+use Rattle.records.proofs.numbers.form_of.Kinds as form-of-kinds
+use Rattle.records.proofs.numbers.form_of.Reads as form-of-reads
 use Rattle.storeys.proofs.verdict.level_of.Met as level-of-met
 use Rattle.storeys.proofs.verdict.level_of.Symbol as level-of-symbol
 use Rattle.storeys.proofs.verdict.level_of.Kinds as level-of-kinds
@@ -190,7 +190,7 @@ pub put-storeys-spec : {M : Type 1} → statement M
 unfolding Code.routine tablesOf
 put-storeys-spec {M} 𝓤 H 𝓜 𝓖 𝓡 = let w : World = record { M = M; 𝓤 = 𝓤; H = H; 𝓜 = 𝓜; 𝓖 = 𝓖; 𝓡 = 𝓡 } in
     meets Says.put-storeys K 1 Code.function body answers w Code.env Key.name (Code.unfolded 𝓤 H 𝓜 𝓡) (
-      form-of-reads.known w Code.env form-of-symbol.name form-of-symbol.routine Code.calls-storeys·verdict·form-of (form-of-met.met 𝓤 H 𝓜 𝓖 𝓡),
+      form-of-reads.known w Code.env form-of-symbol.name form-of-symbol.routine Code.calls-records·numbers·form-of (form-of-met.met 𝓤 H 𝓜 𝓖 𝓡),
       level-of-reads.known w Code.env level-of-symbol.name level-of-symbol.routine Code.calls-storeys·verdict·level-of (level-of-met.met 𝓤 H 𝓜 𝓖 𝓡),
       no-storey-reads.known w Code.env no-storey-symbol.name no-storey-symbol.routine Code.calls-report·printed·no-storey (no-storey-met.met 𝓤 H 𝓜 𝓖 𝓡),
       count-of-reads.known w Code.env count-of-symbol.name count-of-symbol.routine Code.calls-records·numbers·count-of (count-of-met.met 𝓤 H 𝓜 𝓖 𝓡),

@@ -20,10 +20,10 @@ use Rattle.walk.proofs.Slice.{ty, R, kept, full, here, sh-len, mut-len, val-at,
 use Rattle.walk.proofs.Array.{begin, end, over}
 use Rattle.walk.proofs.Fn.{Callee, Knows, Body, Answers, entry, callee, knows, call, meets}
 use Rattle.records.proofs.Structs.{header, member, storey}
-use Rattle.storeys.proofs.verdict.form_of.Met as form-of-met
-use Rattle.storeys.proofs.verdict.form_of.Symbol as form-of-symbol
-use Rattle.storeys.proofs.verdict.form_of.Kinds as form-of-kinds
-use Rattle.storeys.proofs.verdict.form_of.Reads as form-of-reads
+use Rattle.records.proofs.numbers.form_of.Met as form-of-met
+use Rattle.records.proofs.numbers.form_of.Symbol as form-of-symbol
+use Rattle.records.proofs.numbers.form_of.Kinds as form-of-kinds
+use Rattle.records.proofs.numbers.form_of.Reads as form-of-reads
 use Rattle.checks.proofs.Says as checks-Says
 use Rattle.checks.proofs.records_fault.Met as records-fault-met
 use Rattle.checks.proofs.records_fault.Symbol as records-fault-symbol
@@ -195,7 +195,7 @@ unfolding Code.routine tablesOf
 write-report-spec {M} 𝓤 H 𝓜 𝓖 𝓡 = let w : World = record { M = M; 𝓤 = 𝓤; H = H; 𝓜 = 𝓜; 𝓖 = 𝓖; 𝓡 = 𝓡 } in
     meets Says.write-report K 2 Code.function body answers w Code.env Key.name (Code.unfolded 𝓤 H 𝓜 𝓡) (
       knows checks-Says.records-fault w Code.env records-fault-symbol.name records-fault-symbol.routine Code.calls-checks·records-fault (records-fault-met.met 𝓤 H 𝓜 𝓖 𝓡),
-      form-of-reads.known w Code.env form-of-symbol.name form-of-symbol.routine Code.calls-storeys·verdict·form-of (form-of-met.met 𝓤 H 𝓜 𝓖 𝓡),
+      form-of-reads.known w Code.env form-of-symbol.name form-of-symbol.routine Code.calls-records·numbers·form-of (form-of-met.met 𝓤 H 𝓜 𝓖 𝓡),
       report-fault-reads.known w Code.env report-fault-symbol.name report-fault-symbol.routine Code.calls-report·printed·report-fault (report-fault-met.met 𝓤 H 𝓜 𝓖 𝓡),
       knows Says.put-storeys w Code.env put-storeys-symbol.name put-storeys-symbol.routine Code.calls-report·sheet·put-storeys (put-storeys-met.met 𝓤 H 𝓜 𝓖 𝓡),
       put-building-reads.known w Code.env put-building-symbol.name put-building-symbol.routine Code.calls-report·printed·put-building (put-building-met.met 𝓤 H 𝓜 𝓖 𝓡),

@@ -17,10 +17,10 @@ use Rattle.walk.proofs.Slice.{R, kept, full, here, val-at, sh-at, sh-spares, sh
 use Rattle.walk.proofs.Fn.{Callee, Knows, Body, Answers, entry, callee, knows, call, meets}
 use Rattle.records.proofs.Structs.{header, member, storey}
 use Rattle.storeys.proofs.Says as Says
-use Rattle.storeys.proofs.verdict.form_of.Met as form-of-met
-use Rattle.storeys.proofs.verdict.form_of.Symbol as form-of-symbol
-use Rattle.storeys.proofs.verdict.form_of.Kinds as form-of-kinds
-use Rattle.storeys.proofs.verdict.form_of.Reads as form-of-reads
+use Rattle.records.proofs.numbers.form_of.Met as form-of-met
+use Rattle.records.proofs.numbers.form_of.Symbol as form-of-symbol
+use Rattle.records.proofs.numbers.form_of.Kinds as form-of-kinds
+use Rattle.records.proofs.numbers.form_of.Reads as form-of-reads
 use Rattle.storeys.proofs.verdict.level_of.Met as level-of-met
 use Rattle.storeys.proofs.verdict.level_of.Symbol as level-of-symbol
 use Rattle.storeys.proofs.verdict.level_of.Kinds as level-of-kinds
@@ -124,7 +124,7 @@ unfolding Code.routine tablesOf
 judge-building-spec {M} 𝓤 H 𝓜 𝓖 𝓡 = let w : World = record { M = M; 𝓤 = 𝓤; H = H; 𝓜 = 𝓜; 𝓖 = 𝓖; 𝓡 = 𝓡 } in
     meets Says.judge-building K 0 Code.function body answers w Code.env Key.name (Code.unfolded 𝓤 H 𝓜 𝓡) (
       knows records-Says.records-fault w Code.env records-fault-symbol.name records-fault-symbol.routine Code.calls-checks·records-fault (records-fault-met.met 𝓤 H 𝓜 𝓖 𝓡),
-      form-of-reads.known w Code.env form-of-symbol.name form-of-symbol.routine Code.calls-storeys·verdict·form-of (form-of-met.met 𝓤 H 𝓜 𝓖 𝓡),
+      form-of-reads.known w Code.env form-of-symbol.name form-of-symbol.routine Code.calls-records·numbers·form-of (form-of-met.met 𝓤 H 𝓜 𝓖 𝓡),
       level-of-reads.known w Code.env level-of-symbol.name level-of-symbol.routine Code.calls-storeys·verdict·level-of (level-of-met.met 𝓤 H 𝓜 𝓖 𝓡),
       knows Says.storeys-verdict w Code.env storeys-verdict-symbol.name storeys-verdict-symbol.routine Code.calls-storeys·building·storeys-verdict (storeys-verdict-met.met 𝓤 H 𝓜 𝓖 𝓡),
       judged-building-reads.known w Code.env judged-building-symbol.name judged-building-symbol.routine Code.calls-storeys·verdict·judged-building (judged-building-met.met 𝓤 H 𝓜 𝓖 𝓡),

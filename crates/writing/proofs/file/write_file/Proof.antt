@@ -24,10 +24,10 @@ use Rattle.records.proofs.Structs.{header, member, storey}
 use Rattle.checks.proofs.Says as checks-Says
 use Rattle.checks.proofs.records_fault.Met as records-fault-met
 use Rattle.checks.proofs.records_fault.Symbol as records-fault-symbol
-use Rattle.writing.proofs.lines.form_of.Met as form-of-met
-use Rattle.writing.proofs.lines.form_of.Symbol as form-of-symbol
-use Rattle.writing.proofs.lines.form_of.Kinds as form-of-kinds
-use Rattle.writing.proofs.lines.form_of.Reads as form-of-reads
+use Rattle.records.proofs.numbers.form_of.Met as form-of-met
+use Rattle.records.proofs.numbers.form_of.Symbol as form-of-symbol
+use Rattle.records.proofs.numbers.form_of.Kinds as form-of-kinds
+use Rattle.records.proofs.numbers.form_of.Reads as form-of-reads
 use Rattle.writing.proofs.lines.file_fault.Met as file-fault-met
 use Rattle.writing.proofs.lines.file_fault.Symbol as file-fault-symbol
 use Rattle.writing.proofs.lines.file_fault.Kinds as file-fault-kinds
@@ -201,5 +201,5 @@ write-file-spec {M} 𝓤 H 𝓜 𝓖 𝓡 = let w : World = record { M = M; 𝓤
       knows Says.put-storeys w Code.env put-storeys-symbol.name put-storeys-symbol.routine Code.calls-writing·file·put-storeys (put-storeys-met.met 𝓤 H 𝓜 𝓖 𝓡),
       refused-reads.known w Code.env refused-symbol.name refused-symbol.routine Code.calls-writing·lines·refused-file (refused-met.met 𝓤 H 𝓜 𝓖 𝓡),
       written-reads.known w Code.env written-symbol.name written-symbol.routine Code.calls-writing·lines·written-file (written-met.met 𝓤 H 𝓜 𝓖 𝓡),
-      form-of-reads.known w Code.env form-of-symbol.name form-of-symbol.routine Code.calls-writing·lines·form-of (form-of-met.met 𝓤 H 𝓜 𝓖 𝓡),
+      form-of-reads.known w Code.env form-of-symbol.name form-of-symbol.routine Code.calls-records·numbers·form-of (form-of-met.met 𝓤 H 𝓜 𝓖 𝓡),
     )

@@ -1,8 +1,8 @@
 use borrow.Author.Tests.{eq-eqb, ne-eqb}
 use Rattle.reading.specs.Survey.{formOf}
 use borrow.Author.Needs.{needs}
-use Rattle.reading.proofs.survey.form_of.Statement.{statement}
-use Rattle.reading.proofs.survey.form_of.Tie as tie
+use Rattle.reading.proofs.survey.file_form.Statement.{statement}
+use Rattle.reading.proofs.survey.file_form.Tie as tie
 
 line-length-requires : tie.Need-line-length-requires
 line-length-requires c κs = search needs
@@ -18,5 +18,5 @@ returns-2 : tie.Need-returns-2
 unfolding formOf
 returns-2 c = rw (← c .before .line-length .ensures, ne-eqb _ _ (c .if1 .left))
 
-pub form-of-spec : {M : Type 1} → statement M
-form-of-spec = tie.close (tie.spec line-length-requires sub-if1 returns returns-2)
+pub file-form-spec : {M : Type 1} → statement M
+file-form-spec = tie.close (tie.spec line-length-requires sub-if1 returns returns-2)
