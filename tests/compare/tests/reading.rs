@@ -7,7 +7,7 @@ use generator::{
     any_file, any_form, check_header, check_member, check_storey, damage, file_of, lent_rows, number_field, survey_lines, valid_survey,
     valid_survey_of, wild_header, wild_member, wild_storey, write_survey, Line, Rng,
 };
-use independent::lines::{cases_of, CASE_FORM, LOAD_CASE, OLD_FORM};
+use independent::lines::{CASE_FORM, LOAD_CASE, OLD_FORM};
 use independent::{Refusal, Survey};
 use llunareth::{raw, LoadCase, HEADER_NUMBERS, MEMBER_NUMBERS, STOREY_NUMBERS};
 
@@ -326,17 +326,20 @@ fn wild_records() {
     }
 }
 
-/// By itself a record of a form that is not known is looked at as one of the old form.
+/// A record by itself, of the other form and of one that is not known, which is 3.
 #[test]
 fn records_of_the_other_form_and_of_none() {
     for form in FORMS {
         let s = small(form);
         let (storey, member) = (storey_numbers(&s.storeys[0]), member_numbers(&s.members[0]).unwrap());
-        for other in [0, 1, 2, 3, 255, u64::MAX] {
+        for other in FORMS {
             assert_eq!(storey_fault(other, &storey), check_storey(other, &s.storeys[0]));
             assert_eq!(member_fault(other, &member), check_member(other, &s.members[0]));
-            let fits = cases_of(other) == cases_of(form);
+            let fits = other == form;
             assert_eq!((storey_fault(other, &storey).is_ok(), member_fault(other, &member).is_ok()), (fits, fits), "{form} as {other}");
+        }
+        for unknown in [0, 3, 255, u64::MAX] {
+            assert_eq!((storey_fault(unknown, &storey), member_fault(unknown, &member)), (Err(Refusal::of_record(3)), Err(Refusal::of_record(3))), "{form} as {unknown}");
         }
     }
 }
