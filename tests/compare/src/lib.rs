@@ -2,6 +2,7 @@
 pub mod picture;
 pub mod samples;
 pub mod spectrum;
+pub mod surveys;
 
 use generator::{edge_member_for, file_len, one_case, sheet_len, Rng};
 use independent::lines::{cases_of, CASES, CASE_FORM, LOAD_CASE, MEMBER, OLD_FORM};

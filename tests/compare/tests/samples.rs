@@ -1,6 +1,6 @@
-//! The samples: each sheet is what both programs print, and shows what the sample is named for.
+//! The samples: each survey is what its description makes, each sheet what both programs print, and shows what the sample is named for.
 use compare::samples::{self, Sample};
-use compare::{refusal_told, same_determine, worked_example, worked_example_in_cases, FILE_REFUSALS, WORKED_SHEET, WORKED_SHEET_IN_CASES};
+use compare::{refusal_told, same_determine, surveys, worked_example, worked_example_in_cases, FILE_REFUSALS, WORKED_SHEET, WORKED_SHEET_IN_CASES};
 use generator::{write_survey, INPUT_MOST};
 use independent::lines::{cases_of, CASE_FORM, OLD_FORM};
 use independent::{judge_member, judge_storey, Member, Storey, Survey};
@@ -65,6 +65,17 @@ fn every_survey_has_its_sheet_and_its_line_in_the_readme() {
     let readme = fs::read_to_string(samples::folder().join("README.md")).expect("README.md");
     for name in names {
         assert_eq!(readme.matches(&format!("| `{name}` |")).count(), 1, "{name} in README.md");
+    }
+}
+
+#[test]
+fn every_survey_is_what_its_description_makes() {
+    let mut made = surveys::all();
+    made.sort();
+    let names: Vec<&str> = made.iter().map(|(name, _)| *name).collect();
+    assert_eq!(names, samples::names(".survey"));
+    for (name, survey) in made {
+        assert!(survey == samples::survey(name), "{name}");
     }
 }
 
