@@ -1,6 +1,8 @@
 //! What the calls answer.
 use crate::raw::LINE_UNIT;
+use crate::{CASES, FOUR_CASES};
 use std::fmt;
+use std::ops::Deref;
 
 /// A refusal by its number (docs/REFUSALS.md), with the line when reading, else line 0.
 #[derive(Clone, Copy, Debug, PartialEq, Eq, Hash)]
@@ -27,7 +29,29 @@ impl fmt::Display for Refusal {
 
 impl std::error::Error for Refusal {}
 
-/// What is found of a member. Ratios are in hundred-thousandths ([`RATIO_SCALE`](crate::RATIO_SCALE)), rotations in microradians
+/// What is found in each load case of a form, in order: one of the old form, four of the form of four cases.
+#[derive(Clone, Copy, Debug, PartialEq, Eq, Hash)]
+pub struct Cases<T> {
+    found: [T; CASES],
+    count: usize,
+}
+
+impl<T> Cases<T> {
+    /// Of a form, by what stands in each case.
+    pub(crate) fn of(form: u64, found: impl Fn(usize) -> T) -> Cases<T> {
+        Cases { found: std::array::from_fn(found), count: if form == FOUR_CASES { CASES } else { 1 } }
+    }
+}
+
+impl<T> Deref for Cases<T> {
+    type Target = [T];
+
+    fn deref(&self) -> &[T] {
+        &self.found[..self.count]
+    }
+}
+
+/// What is found of a member in one load case. Ratios are in hundred-thousandths ([`RATIO_SCALE`](crate::RATIO_SCALE)), rotations in microradians
 /// ([`ROTATION_SCALE`](crate::ROTATION_SCALE)).
 #[derive(Clone, Copy, Debug, PartialEq, Eq, Hash)]
 pub struct MemberFinding {
@@ -41,11 +65,23 @@ pub struct MemberFinding {
     pub over: bool,
     /// The axial ratio n_D.
     pub nd: u64,
+    /// The m test is dropped.
+    pub m_dropped: bool,
+    /// Over by m, and over by the rotation.
+    pub over_m: bool,
+    pub over_rotation: bool,
 }
 
-/// What is found of a storey. Forces are in 0.1 kN ([`FORCE_SCALE`](crate::FORCE_SCALE)).
+/// What is found of a storey: Risky where it is in some case.
 #[derive(Clone, Copy, Debug, PartialEq, Eq, Hash)]
 pub struct StoreyFinding {
+    pub risky: bool,
+    pub cases: Cases<StoreyCaseFinding>,
+}
+
+/// What is found of a storey in one load case. Forces are in 0.1 kN ([`FORCE_SCALE`](crate::FORCE_SCALE)).
+#[derive(Clone, Copy, Debug, PartialEq, Eq, Hash)]
+pub struct StoreyCaseFinding {
     /// Σ, the total of n_D, hundred-thousandths.
     pub axial_total: u64,
     /// c.
@@ -57,6 +93,13 @@ pub struct StoreyFinding {
     pub risky: bool,
     /// Whether the walls carry 0.40 of the storey shear or more.
     pub walls_suffice: bool,
+    /// Which rule makes it Risky: P / W above the allowed share; a member over while Σ is above 65,000 c; damage.
+    pub by_share: bool,
+    pub by_one_over: bool,
+    pub by_damage: bool,
+    /// The allowed share is the quotient of these two.
+    pub allowed_num: u64,
+    pub allowed_den: u64,
 }
 
 /// What is found of a building.

@@ -10,7 +10,7 @@ use crate::{Member, Motion, Storey};
 use std::sync::OnceLock;
 
 /// The form of the calls that this package knows.
-pub const VERSION: u64 = 5;
+pub const VERSION: u64 = 6;
 
 /// Returned where `out` is too short for a call's values; no refusal has this number.
 pub const SHORT: u64 = 255;
@@ -19,13 +19,19 @@ pub const SHORT: u64 = 255;
 pub const LINE_UNIT: u64 = 256;
 
 /// How many values [`read`] puts out.
-pub const READ_VALUES: usize = 8;
+pub const READ_VALUES: usize = 9;
 
-/// How many values [`judge_member`] puts out.
-pub const MEMBER_VALUES: usize = 7;
+/// How many values [`judge_member`] puts out for each case of the form.
+pub const FINDING_VALUES: usize = 10;
 
-/// How many values [`judge_storey`] puts out.
-pub const STOREY_VALUES: usize = 6;
+/// How many values [`judge_member`] may put out: those of four cases.
+pub const MEMBER_VALUES: usize = 40;
+
+/// How many values [`judge_storey`] puts out for each case of the form, after the first.
+pub const STOREY_CASE_VALUES: usize = 11;
+
+/// How many values [`judge_storey`] may put out: those of four cases.
+pub const STOREY_VALUES: usize = 45;
 
 /// How many values [`judge_building`] puts out.
 pub const BUILDING_VALUES: usize = 3;
@@ -55,11 +61,23 @@ extern "C" {
         out_len: usize,
     ) -> u64;
     fn llunareth_header_fault(values: *const u64, values_len: usize) -> u64;
-    fn llunareth_storey_fault(values: *const u64, values_len: usize) -> u64;
-    fn llunareth_member_fault(values: *const u64, values_len: usize) -> u64;
-    fn llunareth_judge_member(k: u64, met: bool, values: *const u64, values_len: usize, out: *mut u64, out_len: usize) -> u64;
+    fn llunareth_storey_fault(form: u64, values: *const u64, values_len: usize) -> u64;
+    fn llunareth_member_fault(form: u64, values: *const u64, values_len: usize) -> u64;
+    fn llunareth_judge_member(
+        k: u64,
+        form: u64,
+        met1: bool,
+        met2: bool,
+        met3: bool,
+        met4: bool,
+        values: *const u64,
+        values_len: usize,
+        out: *mut u64,
+        out_len: usize,
+    ) -> u64;
     fn llunareth_judge_storey(
         k: u64,
+        form: u64,
         storey: *const u64,
         storey_len: usize,
         members: *const Member,
@@ -134,7 +152,7 @@ fn expect_version() {
 
 // Each call below is sound for every slice: it is handed a slice's own pointer and length, and stays within them.
 
-/// Reads a file into the rows. Values: the six fields of B, the storey rows and the member rows filled.
+/// Reads a file into the rows. Values: the header's seven numbers, the storey rows and the member rows filled.
 pub fn read(file: &[u8], storeys: &mut [Storey], members: &mut [Member], out: &mut [u64]) -> u64 {
     expect_version();
     unsafe {
@@ -157,29 +175,44 @@ pub fn header_fault(values: &[u64]) -> u64 {
     unsafe { llunareth_header_fault(values.as_ptr(), values.len()) }
 }
 
-/// The number of a storey's refusal, 0 for none.
-pub fn storey_fault(values: &[u64]) -> u64 {
+/// The number of the refusal of a storey of a form, 0 for none.
+pub fn storey_fault(form: u64, values: &[u64]) -> u64 {
     expect_version();
-    unsafe { llunareth_storey_fault(values.as_ptr(), values.len()) }
+    unsafe { llunareth_storey_fault(form, values.as_ptr(), values.len()) }
 }
 
-/// The number of a member's refusal, 0 for none.
-pub fn member_fault(values: &[u64]) -> u64 {
+/// The number of the refusal of a member of a form, 0 for none.
+pub fn member_fault(form: u64, values: &[u64]) -> u64 {
     expect_version();
-    unsafe { llunareth_member_fault(values.as_ptr(), values.len()) }
+    unsafe { llunareth_member_fault(form, values.as_ptr(), values.len()) }
 }
 
-/// Judges a member. Values: class, m, its limit, rotation, its limit, over, n_D.
-pub fn judge_member(k: u64, met: bool, values: &[u64], out: &mut [u64]) -> u64 {
-    expect_version();
-    unsafe { llunareth_judge_member(k, met, values.as_ptr(), values.len(), out.as_mut_ptr(), out.len()) }
-}
-
-/// Judges a storey. Values: Σ, c, P, W, Risky, whether the 0.40 condition is met.
-pub fn judge_storey(k: u64, storey: &[u64], members: &[Member], out: &mut [u64]) -> u64 {
+/// Judges a member of a form, with the 0.40 condition by case. Values, for each case of the form: class, m, its limit, rotation, its limit, over,
+/// n_D, whether the m test is dropped, over by m, over by the rotation.
+pub fn judge_member(k: u64, form: u64, met: [bool; 4], values: &[u64], out: &mut [u64]) -> u64 {
     expect_version();
     unsafe {
-        llunareth_judge_storey(k, storey.as_ptr(), storey.len(), members.as_ptr(), members.len(), out.as_mut_ptr(), out.len())
+        llunareth_judge_member(
+            k,
+            form,
+            met[0],
+            met[1],
+            met[2],
+            met[3],
+            values.as_ptr(),
+            values.len(),
+            out.as_mut_ptr(),
+            out.len(),
+        )
+    }
+}
+
+/// Judges a storey of a form. Values: Risky in some case; then for each case of the form Σ, c, P, W, Risky, whether the 0.40 condition is met, by
+/// which of the three rules it is Risky, the allowed share's two numbers.
+pub fn judge_storey(k: u64, form: u64, storey: &[u64], members: &[Member], out: &mut [u64]) -> u64 {
+    expect_version();
+    unsafe {
+        llunareth_judge_storey(k, form, storey.as_ptr(), storey.len(), members.as_ptr(), members.len(), out.as_mut_ptr(), out.len())
     }
 }
 
@@ -267,8 +300,8 @@ mod tests {
     }
 
     #[test]
-    #[should_panic(expected = "the linked library has version 6 of the calls, this package version 5")]
+    #[should_panic(expected = "the linked library has version 7 of the calls, this package version 6")]
     fn another_version() {
-        expect(6);
+        expect(7);
     }
 }

@@ -12,8 +12,24 @@ pub const ROTATION_SCALE: u64 = 1_000_000;
 /// A force (N_D and N_K less [`ZERO_FORCE`]) divided by this is in kN, a moment in kNm.
 pub const FORCE_SCALE: u64 = 10;
 
-/// The bytes of the longest file that [`write`](crate::write) writes: 10 storeys of 200 members.
-pub const WRITE_MOST: usize = 420_310;
+/// The bytes of the longest file that [`write`](crate::write) writes: 10 storeys of 200 members in four load cases.
+pub const WRITE_MOST: usize = 884_550;
+
+/// Bytes that hold every sheet that [`determine`](crate::determine) puts out.
+pub const SHEET_MOST: usize = 128_906;
+
+/// The forms of a survey: of one load case, and of four.
+pub const OLD_FORM: u64 = 1;
+pub const FOUR_CASES: u64 = 2;
+
+/// How many load cases a record holds.
+pub const CASES: usize = 4;
+
+/// How many numbers a record has.
+pub const HEADER_NUMBERS: usize = 7;
+pub const STOREY_NUMBERS: usize = 6;
+pub const CASE_NUMBERS: usize = 8;
+pub const MEMBER_NUMBERS: usize = 50;
 
 /// The B line.
 #[repr(C)]
@@ -30,6 +46,8 @@ pub struct Header {
     pub tilt2: u64,
     /// How many S lines follow.
     pub count: u64,
+    /// [`OLD_FORM`] or [`FOUR_CASES`].
+    pub form: u64,
 }
 
 /// The S line.
@@ -37,8 +55,8 @@ pub struct Header {
 #[derive(Clone, Copy, Debug, Default, PartialEq, Eq, Hash)]
 pub struct Storey {
     pub number: u64,
-    /// Storey shear, 0.1 kN.
-    pub shear: u64,
+    /// Storey shear of each case, 0.1 kN; 0 in cases that the form lacks.
+    pub shears: [u64; CASES],
     /// How many M lines follow.
     pub count: u64,
 }
@@ -80,7 +98,8 @@ pub struct Member {
     pub damage: u64,
     /// N_D, counted from -20,000,000 ([`ZERO_FORCE`]).
     pub nd: u64,
-    pub case: LoadCase,
+    /// The cases that the form lacks are [`LoadCase::NONE`].
+    pub cases: [LoadCase; CASES],
 }
 
 /// What one load case brings to a member.
@@ -105,9 +124,14 @@ pub struct LoadCase {
     pub drift: u64,
 }
 
-/// From a record to its numbers in the order of its line, and back.
+impl LoadCase {
+    /// A case that the form lacks: all 0, N_K the force 0. A case of zeros is refused by 3.
+    pub const NONE: LoadCase = LoadCase { nk: ZERO_FORCE, me: 0, mp: 0, ve: 0, vr: 0, shear: 0, rotation: 0, drift: 0 };
+}
+
+/// From a record to its numbers in the order of its fields, and back.
 macro_rules! numbers {
-    ($record:ty, $count:literal) => {
+    ($record:ty, $count:ident) => {
         impl From<$record> for [u64; $count] {
             fn from(record: $record) -> Self {
                 // Sound: the record is so many u64, one after another.
@@ -124,9 +148,10 @@ macro_rules! numbers {
     };
 }
 
-numbers!(Header, 6);
-numbers!(Storey, 3);
-numbers!(Member, 26);
+numbers!(Header, HEADER_NUMBERS);
+numbers!(Storey, STOREY_NUMBERS);
+numbers!(LoadCase, CASE_NUMBERS);
+numbers!(Member, MEMBER_NUMBERS);
 
 /// A survey that was read: its header and the rows filled, the members of all storeys in survey order.
 #[derive(Clone, Copy, Debug, PartialEq, Eq)]

@@ -42,13 +42,13 @@ members-counted ss ms i e =
     omega (arith, e, length-take (storeyIn ss i .count) (drop b ms), length-drop b ms, before-within ss (suc i))
 
 -- ---- a storey's members without a refusal
-pub row-good : (rows : List Member) → memberRowsFault rows ≡ 0 → (j : ℕ) → j < length rows → None (memberFault (memberIn rows j) ∷ repeated (λ e. memberIn rows e .number) j ∷ [])
+pub row-good : (form : ℕ) (rows : List Member) → memberRowsFault form rows ≡ 0 → (j : ℕ) → j < length rows → None (memberFault form (memberIn rows j) ∷ repeated (λ e. memberIn rows e .number) j ∷ [])
 unfolding memberRowsFault rowFault
-row-good rows e j l = in-order-clear _ (first-clear (rowFault rows) (length rows) e j l)
+row-good form rows e j l = in-order-clear _ (first-clear (rowFault form rows) (length rows) e j l)
 
 -- ---- records without a refusal
 module _ (h : Header) (ss : List Storey) (ms : List Member) (none : recordsFault (surveyOf h ss ms) ≡ 0) where
-  checks : None (countsFault (surveyOf h ss ms) ∷ headerFault h ∷ first 0 (λ n. n) (storeyRowsFault ss ms) (length ss) ∷ [])
+  checks : None (countsFault (surveyOf h ss ms) ∷ headerFault h ∷ first 0 (λ n. n) (storeyRowsFault (h .form) ss ms) (length ss) ∷ [])
   unfolding recordsFault
   checks = in-order-clear _ none
 
@@ -65,12 +65,12 @@ module _ (h : Header) (ss : List Storey) (ms : List Member) (none : recordsFault
   pub header-good : headerFault h ≡ 0
   header-good = one (rest checks)
 
-  pub rows-good : first 0 (λ n. n) (storeyRowsFault ss ms) (length ss) ≡ 0
+  pub rows-good : first 0 (λ n. n) (storeyRowsFault (h .form) ss ms) (length ss) ≡ 0
   rows-good = one (rest (rest checks))
 
-  pub rows : (i : ℕ) → i < length ss → None (storeyFault (storeyIn ss i) ∷ repeated (λ j. storeyIn ss j .number) i ∷ memberRowsFault (membersOf ss ms i) ∷ [])
+  pub rows : (i : ℕ) → i < length ss → None (storeyFault (h .form) (storeyIn ss i) ∷ repeated (λ j. storeyIn ss j .number) i ∷ memberRowsFault (h .form) (membersOf ss ms i) ∷ [])
   unfolding storeyRowsFault
-  rows i l = in-order-clear _ (first-clear (storeyRowsFault ss ms) (length ss) rows-good i l)
+  rows i l = in-order-clear _ (first-clear (storeyRowsFault (h .form) ss ms) (length ss) rows-good i l)
 
   -- ---- how many there are
   pub storeys-most : length ss ≤ 10
@@ -82,7 +82,7 @@ module _ (h : Header) (ss : List Storey) (ms : List Member) (none : recordsFault
   before-most : (i : ℕ) → i ≤ length ss → membersBefore ss i ≤ 200 * i
   unfolding membersBefore
   before-most zero l = omega arith
-  before-most (suc i) l = omega (arith, before-most i (omega arith), count-most (storeyIn ss i) (one (rows i (omega arith))))
+  before-most (suc i) l = omega (arith, before-most i (omega arith), count-most (h .form) (storeyIn ss i) (one (rows i (omega arith))))
 
   pub members-most : length ms ≤ 2_000
   members-most = omega (arith, before-end, before-most (length ss) (omega arith), storeys-most)

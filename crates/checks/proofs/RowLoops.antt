@@ -38,25 +38,25 @@ module _ (rows : List Member) (v n : ℕ) where
   unseen-all e h p q = let z : e ≡ n = omega arith in rw (rw z at h)
 
 -- ---- the first refusal of the members
-module _ (rows : List Member) where
-  pub clear-none : first 0 (λ r. r) (rowFault rows) 0 ≡ 0
-  clear-none = first-none 0 (λ r. r) (rowFault rows)
+module _ (form : ℕ) (rows : List Member) where
+  pub clear-none : first 0 (λ r. r) (rowFault form rows) 0 ≡ 0
+  clear-none = first-none 0 (λ r. r) (rowFault form rows)
 
-  module _ (j : ℕ) (n x f : ℕ) (c : first 0 (λ r. r) (rowFault rows) j ≡ 0) (np : n ≡ memberIn rows j .number) (xp : x ≡ pick (anyBelow (λ (e : ℕ). eqb (memberIn rows e .number) n) j) 5 0) (fp : f ≡ inOrder (memberFault (memberIn rows j) ∷ x ∷ [])) where
-    fault-is : f ≡ rowFault rows j
+  module _ (j : ℕ) (n x f : ℕ) (c : first 0 (λ r. r) (rowFault form rows) j ≡ 0) (np : n ≡ memberIn rows j .number) (xp : x ≡ pick (anyBelow (λ (e : ℕ). eqb (memberIn rows e .number) n) j) 5 0) (fp : f ≡ inOrder (memberFault form (memberIn rows j) ∷ x ∷ [])) where
+    fault-is : f ≡ rowFault form rows j
     unfolding rowFault
     fault-is = fp ∙ rw (xp, np)
 
-    pub refused-here : j < length rows → (f ≡ 0 → ⊥) → f ≡ memberRowsFault rows
+    pub refused-here : j < length rows → (f ≡ 0 → ⊥) → f ≡ memberRowsFault form rows
     unfolding memberRowsFault
     refused-here h ne =
-        let e : first 0 (λ r. r) (rowFault rows) (j + 1) ≡ f = first-next 0 (λ r. r) (rowFault rows) j c ∙ sym fault-is in
-        sym (first-kept 0 (λ r. r) (rowFault rows) (j + 1) (length rows) (omega arith) (λ z. ne (sym e ∙ z)) ∙ e)
+        let e : first 0 (λ r. r) (rowFault form rows) (j + 1) ≡ f = first-next 0 (λ r. r) (rowFault form rows) j c ∙ sym fault-is in
+        sym (first-kept 0 (λ r. r) (rowFault form rows) (j + 1) (length rows) (omega arith) (λ z. ne (sym e ∙ z)) ∙ e)
 
-    pub clear-next : f ≡ 0 → first 0 (λ r. r) (rowFault rows) (j + 1) ≡ 0
-    clear-next z = first-next 0 (λ r. r) (rowFault rows) j c ∙ sym fault-is ∙ z
+    pub clear-next : f ≡ 0 → first 0 (λ r. r) (rowFault form rows) (j + 1) ≡ 0
+    clear-next z = first-next 0 (λ r. r) (rowFault form rows) j c ∙ sym fault-is ∙ z
 
-  pub clear-all : (j : ℕ) → first 0 (λ r. r) (rowFault rows) j ≡ 0 → j ≤ length rows → length rows ≤ j → 0 ≡ memberRowsFault rows
+  pub clear-all : (j : ℕ) → first 0 (λ r. r) (rowFault form rows) j ≡ 0 → j ≤ length rows → length rows ≤ j → 0 ≡ memberRowsFault form rows
   unfolding memberRowsFault
   clear-all j c h g = let z : j ≡ length rows = omega arith in sym (rw z at c)
 
@@ -127,66 +127,66 @@ module _ (ss : List Storey) (ms : List Member) (i before c : ℕ) (e : before �
   part-is = let k : (before + c) - before ≡ c = omega arith in rw (k, e, g)
 
 -- ---- the refusals of the rows
-module _ (ss : List Storey) (ms : List Member) where
+module _ (form : ℕ) (ss : List Storey) (ms : List Member) where
   abbrev refusal : ℕ → ℕ
-  refusal = first 0 (λ n. n) (storeyRowsFault ss ms)
+  refusal = first 0 (λ n. n) (storeyRowsFault form ss ms)
 
   pub rows-none : refusal 0 ≡ 0
-  rows-none = first-none 0 (λ n. n) (storeyRowsFault ss ms)
+  rows-none = first-none 0 (λ n. n) (storeyRowsFault form ss ms)
 
   pub rows-all : (i : ℕ) → refusal i ≡ 0 → i ≤ length ss → length ss ≤ i → 0 ≡ refusal (length ss)
   rows-all i e h g = let q : i ≡ length ss = omega arith in rw (← q) (sym e)
 
-  stops : (i r : ℕ) → refusal i ≡ 0 → i < length ss → r ≡ storeyRowsFault ss ms i → (r ≡ 0 → ⊥) → r ≡ refusal (length ss)
+  stops : (i r : ℕ) → refusal i ≡ 0 → i < length ss → r ≡ storeyRowsFault form ss ms i → (r ≡ 0 → ⊥) → r ≡ refusal (length ss)
   stops i r e h g ne =
-      let k = first-next 0 (λ n. n) (storeyRowsFault ss ms) i e in
+      let k = first-next 0 (λ n. n) (storeyRowsFault form ss ms) i e in
       let f : refusal (i + 1) ≡ r = k ∙ sym g in
-      sym (first-kept 0 (λ n. n) (storeyRowsFault ss ms) (i + 1) (length ss) (omega arith) (λ q. ne (sym f ∙ q)) ∙ f)
+      sym (first-kept 0 (λ n. n) (storeyRowsFault form ss ms) (i + 1) (length ss) (omega arith) (λ q. ne (sym f ∙ q)) ∙ f)
 
   module _ (i own x rep : ℕ) (s : Storey) (e : refusal i ≡ 0) (h : i < length ss) (d : s ≡ storeyIn ss i) (y : x ≡ s .number)
-      (z : rep ≡ pick (anyBelow (λ (j : ℕ). eqb (storeyIn ss j .number) x) i) 5 0) (o : own ≡ inOrder (storeyFault s ∷ rep ∷ [])) where
-    own-is : own ≡ inOrder (storeyFault (storeyIn ss i) ∷ repeated (λ j. storeyIn ss j .number) i ∷ [])
+      (z : rep ≡ pick (anyBelow (λ (j : ℕ). eqb (storeyIn ss j .number) x) i) 5 0) (o : own ≡ inOrder (storeyFault form s ∷ rep ∷ [])) where
+    own-is : own ≡ inOrder (storeyFault form (storeyIn ss i) ∷ repeated (λ j. storeyIn ss j .number) i ∷ [])
     own-is = o ∙ rw (z, y, d)
 
-    row-is : storeyRowsFault ss ms i ≡ pick (eqb own 0) (memberRowsFault (membersOf ss ms i)) own
+    row-is : storeyRowsFault form ss ms i ≡ pick (eqb own 0) (memberRowsFault form (membersOf ss ms i)) own
     unfolding storeyRowsFault
-    row-is = in-order-last (storeyFault (storeyIn ss i) ∷ repeated (λ j. storeyIn ss j .number) i ∷ []) (memberRowsFault (membersOf ss ms i)) ∙ rw (← own-is)
+    row-is = in-order-last (storeyFault form (storeyIn ss i) ∷ repeated (λ j. storeyIn ss j .number) i ∷ []) (memberRowsFault form (membersOf ss ms i)) ∙ rw (← own-is)
 
     pub own-refused : (own ≡ 0 → ⊥) → own ≡ refusal (length ss)
-    own-refused ne = stops i own e h (sym (row-is ∙ pick-other own (memberRowsFault (membersOf ss ms i)) ne)) ne
+    own-refused ne = stops i own e h (sym (row-is ∙ pick-other own (memberRowsFault form (membersOf ss ms i)) ne)) ne
 
     module _ (n : own ≡ 0) (before c fault : ℕ) (b : before ≡ membersBefore ss i) (g : c ≡ s .count)
-        (f : fault ≡ memberRowsFault (take ((before + c) - before) (drop before ms))) where
-      members-is : fault ≡ storeyRowsFault ss ms i
+        (f : fault ≡ memberRowsFault form (take ((before + c) - before) (drop before ms))) where
+      members-is : fault ≡ storeyRowsFault form ss ms i
       members-is =
-          f ∙ ap memberRowsFault (part-is ss ms i before c b (g ∙ ap (λ (t : Storey). t .count) d))
-          ∙ sym (row-is ∙ pick-zero own (memberRowsFault (membersOf ss ms i)) n)
+          f ∙ ap (memberRowsFault form) (part-is ss ms i before c b (g ∙ ap (λ (t : Storey). t .count) d))
+          ∙ sym (row-is ∙ pick-zero own (memberRowsFault form (membersOf ss ms i)) n)
 
       pub members-refused : (fault ≡ 0 → ⊥) → fault ≡ refusal (length ss)
       members-refused ne = stops i fault e h members-is ne
 
       pub rows-next : fault ≡ 0 → refusal (i + 1) ≡ 0
-      rows-next q = first-next 0 (λ r. r) (storeyRowsFault ss ms) i e ∙ sym members-is ∙ q
+      rows-next q = first-next 0 (λ r. r) (storeyRowsFault form ss ms) i e ∙ sym members-is ∙ q
 
 -- ---- all the refusals
 module _ (h : Header) (ss : List Storey) (ms : List Member) (fit : Bool) (r : ℕ) (e : fit ≡ eqb (counts ss) (length ms)) (g : r ≡ headerCallFault h (length ss) fit) where
   first-is : r ≡ inOrder (countFault (h .count) (length ss) ∷ countFault (counts ss) (length ms) ∷ headerFault h ∷ [])
   first-is = g ∙ rw e
 
-  all-is : recordsFault (surveyOf h ss ms) ≡ pick (eqb r 0) (refusal ss ms (length ss)) r
+  all-is : recordsFault (surveyOf h ss ms) ≡ pick (eqb r 0) (refusal (h .form) ss ms (length ss)) r
   unfolding recordsFault countsFault
   all-is =
-      nested (eqb (countFault (h .count) (length ss)) 0) (countFault (h .count) (length ss)) (countFault (counts ss) (length ms)) (headerFault h ∷ refusal ss ms (length ss) ∷ []) refl
-      ∙ in-order-both (countFault (h .count) (length ss) ∷ countFault (counts ss) (length ms) ∷ headerFault h ∷ []) (refusal ss ms (length ss) ∷ [])
-      ∙ rw (← first-is, last-of (refusal ss ms (length ss)))
+      nested (eqb (countFault (h .count) (length ss)) 0) (countFault (h .count) (length ss)) (countFault (counts ss) (length ms)) (headerFault h ∷ refusal (h .form) ss ms (length ss) ∷ []) refl
+      ∙ in-order-both (countFault (h .count) (length ss) ∷ countFault (counts ss) (length ms) ∷ headerFault h ∷ []) (refusal (h .form) ss ms (length ss) ∷ [])
+      ∙ rw (← first-is, last-of (refusal (h .form) ss ms (length ss)))
 
   pub refused-first : (r ≡ 0 → ⊥) → r ≡ recordsFault (surveyOf h ss ms)
-  refused-first ne = sym (all-is ∙ pick-other r (refusal ss ms (length ss)) ne)
+  refused-first ne = sym (all-is ∙ pick-other r (refusal (h .form) ss ms (length ss)) ne)
 
   pub counted : r ≡ 0 → Counted ss ms
   counted z =
       let none : None (countFault (h .count) (length ss) ∷ countFault (counts ss) (length ms) ∷ headerFault h ∷ []) = in-order-clear _ (sym first-is ∙ z) in
       count-clear (counts ss) (length ms) (one (rest none))
 
-  pub refused-later : r ≡ 0 → (f : ℕ) → f ≡ refusal ss ms (length ss) → f ≡ recordsFault (surveyOf h ss ms)
-  refused-later z f q = q ∙ sym (all-is ∙ pick-zero r (refusal ss ms (length ss)) z)
+  pub refused-later : r ≡ 0 → (form f : ℕ) → form ≡ h .form → f ≡ refusal form ss ms (length ss) → f ≡ recordsFault (surveyOf h ss ms)
+  refused-later z form f k q = q ∙ ap (λ n. refusal n ss ms (length ss)) k ∙ sym (all-is ∙ pick-zero r (refusal (h .form) ss ms (length ss)) z)

@@ -23,10 +23,10 @@ repeat-fault = record {
   ensures = λ κs a z e. (z ≡ pick (anyBelow (λ (e : ℕ). eqb (memberIn (a .0 .now) e .number) (a .1 .1 .0)) (a .1 .0)) 5 0) ∷ [];
 }
 
-abbrev pub members-fault : Plain {n = 1} (pShrS (R member) 0 tt ∷ []) (rNum w64)
+abbrev pub members-fault : Plain {n = 1} (pNum w64 ∷ pShrS (R member) 0 tt ∷ []) (rNum w64)
 members-fault = record {
   requires = λ κs a. [];
-  ensures = λ κs a z e. (z ≡ memberRowsFault (a .0 .now)) ∷ [];
+  ensures = λ κs a z e. (z ≡ memberRowsFault (a .0) (a .1 .0 .now)) ∷ [];
 }
 
 abbrev pub counts-fit : Plain {n = 1} (pShrS (R storey) 0 tt ∷ pNum w64 ∷ []) rBool
@@ -41,10 +41,10 @@ storey-repeat-fault = record {
   ensures = λ κs a z e. (z ≡ pick (anyBelow (λ (e : ℕ). eqb (storeyIn (a .0 .now) e .number) (a .1 .1 .0)) (a .1 .0)) 5 0) ∷ [];
 }
 
-abbrev pub rows-fault : Plain {n = 2} (pShrS (R storey) 0 tt ∷ pShrS (R member) 1 tt ∷ []) (rNum w64)
+abbrev pub rows-fault : Plain {n = 2} (pNum w64 ∷ pShrS (R storey) 0 tt ∷ pShrS (R member) 1 tt ∷ []) (rNum w64)
 rows-fault = record {
-  requires = λ κs a. (Counted (a .0 .now) (a .1 .0 .now)) ∷ [];
-  ensures = λ κs a z e. (z ≡ first 0 (λ n. n) (storeyRowsFault (a .0 .now) (a .1 .0 .now)) (length (a .0 .now))) ∷ [];
+  requires = λ κs a. (Counted (a .1 .0 .now) (a .1 .1 .0 .now)) ∷ [];
+  ensures = λ κs a z e. (z ≡ first 0 (λ n. n) (storeyRowsFault (a .0) (a .1 .0 .now) (a .1 .1 .0 .now)) (length (a .1 .0 .now))) ∷ [];
 }
 
 abbrev pub records-fault : Plain {n = 2} (taken header ∷ pShrS (R storey) 0 tt ∷ pShrS (R member) 1 tt ∷ []) (rNum w64)

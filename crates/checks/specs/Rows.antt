@@ -7,13 +7,13 @@ use Rattle.records.specs.{Blank.noStorey, Blank.noMember, Records.headerFault, 
 abbrev pub memberIn : List Member → ℕ → Member
 memberIn ms j = getD ms j noMember
 
--- a member's 3 and 4, then its 5: its number is one of those before it in the storey
-unfoldable pub rowFault : List Member → ℕ → ℕ
-rowFault ms j = inOrder (memberFault (memberIn ms j) ∷ repeated (λ e. memberIn ms e .number) j ∷ [])
+-- a member's 3 and 4 in its form, then its 5: its number is one of those before it in the storey
+unfoldable pub rowFault : ℕ → List Member → ℕ → ℕ
+rowFault form ms j = inOrder (memberFault form (memberIn ms j) ∷ repeated (λ e. memberIn ms e .number) j ∷ [])
 
 -- the first refusal of the members of a storey, in their order
-unfoldable pub memberRowsFault : List Member → ℕ
-memberRowsFault ms = first 0 (λ n. n) (rowFault ms) (length ms)
+unfoldable pub memberRowsFault : ℕ → List Member → ℕ
+memberRowsFault form ms = first 0 (λ n. n) (rowFault form ms) (length ms)
 
 -- storey i, counted from 0
 abbrev pub storeyIn : List Storey → ℕ → Storey
@@ -38,10 +38,12 @@ countsFault a =
     inOrder (countFault (a .header .count) (length (a .storeys)) ∷ countFault (total (λ s. s .count) (a .storeys)) (length (a .members)) ∷ [])
 
 -- storey i: its 3, its 5 (its number is one of those before it), then its members' 3, 4 and 5
-unfoldable pub storeyRowsFault : List Storey → List Member → ℕ → ℕ
-storeyRowsFault ss ms i = inOrder (storeyFault (storeyIn ss i) ∷ repeated (λ e. storeyIn ss e .number) i ∷ memberRowsFault (membersOf ss ms i) ∷ [])
+unfoldable pub storeyRowsFault : ℕ → List Storey → List Member → ℕ → ℕ
+storeyRowsFault form ss ms i =
+    inOrder (storeyFault form (storeyIn ss i) ∷ repeated (λ e. storeyIn ss e .number) i ∷ memberRowsFault form (membersOf ss ms i) ∷ [])
 
 -- the first refusal of a survey's records: "1 over all, then records in survey order: 3, 4, 5, 7"
 unfoldable pub recordsFault : Survey → ℕ
 recordsFault a =
-    inOrder (countsFault a ∷ headerFault (a .header) ∷ first 0 (λ n. n) (storeyRowsFault (a .storeys) (a .members)) (length (a .storeys)) ∷ [])
+    inOrder
+    (countsFault a ∷ headerFault (a .header) ∷ first 0 (λ n. n) (storeyRowsFault (a .header .form) (a .storeys) (a .members)) (length (a .storeys)) ∷ [])

@@ -18,6 +18,7 @@ use records::Header;
 use records::Member;
 use records::Storey;
 use records::numbers::count_of;
+use records::numbers::form_of;
 
 // 5 where one of the first n members has the number v.
 fn repeat_fault(rows: &[Member], n: usize, v: u64) -> u64
@@ -34,15 +35,15 @@ fn repeat_fault(rows: &[Member], n: usize, v: u64) -> u64
     0
 }
 
-// The first refusal of the members, in their order.
-pub fn members_fault(rows: &[Member]) -> u64
-    ensures { λ r. ⌜ r ≡ memberRowsFault (now (rows .entry)) ⌝ }
+// The first refusal of the members of a form, in their order.
+pub fn members_fault(form: u64, rows: &[Member]) -> u64
+    ensures { λ r. ⌜ r ≡ memberRowsFault form (now (rows .entry)) ⌝ }
 {
     let mut j = 0;
     while j < rows.len() {
         let m = rows[j];
         let repeated = repeat_fault(rows, j, number_of(m));
-        let fault = row_fault(m, repeated);
+        let fault = row_fault(form, m, repeated);
         if fault != 0 {
             return fault;
         }
@@ -84,21 +85,21 @@ fn storey_repeat_fault(storeys: &[Storey], n: usize, v: u64) -> u64
 }
 
 // The first refusal of the storeys and their members, in survey order.
-fn rows_fault(storeys: &[Storey], members: &[Member]) -> u64
+fn rows_fault(form: u64, storeys: &[Storey], members: &[Member]) -> u64
     requires { ⌜ Counted (now storeys) (now members) ⌝ }
-    ensures { λ r. ⌜ r ≡ first 0 (λ n. n) (storeyRowsFault (now (storeys .entry)) (now (members .entry))) (length (now (storeys .entry))) ⌝ }
+    ensures { λ r. ⌜ r ≡ first 0 (λ n. n) (storeyRowsFault form (now (storeys .entry)) (now (members .entry))) (length (now (storeys .entry))) ⌝ }
 {
     let mut before = 0;
     let mut i = 0;
     while i < storeys.len() {
         let s = storeys[i];
         let repeated = storey_repeat_fault(storeys, i, storey_number(s));
-        let own = storey_row_fault(s, repeated);
+        let own = storey_row_fault(form, s, repeated);
         if own != 0 {
             return own;
         }
         let end = before + count_of(s);
-        let fault = members_fault(&members[before..end]);
+        let fault = members_fault(form, &members[before..end]);
         if fault != 0 {
             return fault;
         }
@@ -117,5 +118,5 @@ pub fn records_fault(h: Header, storeys: &[Storey], members: &[Member]) -> u64
     if first != 0 {
         return first;
     }
-    rows_fault(storeys, members)
+    rows_fault(form_of(h), storeys, members)
 }

@@ -7,9 +7,9 @@ ghost use Rattle.checks.specs.RowChecks.{headerCallFault};
 use records::Header;
 use records::Member;
 use records::Storey;
-use records::ranges::header_fault;
-use records::ranges::member_fault;
-use records::ranges::storey_fault;
+use validity::header_fault;
+use validity::member_fault;
+use validity::storey_fault;
 
 pub(crate) fn number_of(m: Member) -> u64
     ensures { λ r. ⌜ r ≡ m .number ⌝ }
@@ -23,22 +23,22 @@ pub(crate) fn storey_number(s: Storey) -> u64
     s.number
 }
 
-// A member's 3 and 4, then the 5 that is handed in.
-pub(crate) fn row_fault(m: Member, repeated: u64) -> u64
-    ensures { λ r. ⌜ r ≡ inOrder (memberFault m ∷ repeated ∷ []) ⌝ }
+// A member's 3 and 4 in its form, then the 5 that is handed in.
+pub(crate) fn row_fault(form: u64, m: Member, repeated: u64) -> u64
+    ensures { λ r. ⌜ r ≡ inOrder (memberFault form m ∷ repeated ∷ []) ⌝ }
 {
-    let f = member_fault(m);
+    let f = member_fault(form, m);
     if f != 0 {
         return f;
     }
     repeated
 }
 
-// A storey's 3, then the 5 that is handed in.
-pub(crate) fn storey_row_fault(s: Storey, repeated: u64) -> u64
-    ensures { λ r. ⌜ r ≡ inOrder (storeyFault s ∷ repeated ∷ []) ⌝ }
+// A storey's 3 in its form, then the 5 that is handed in.
+pub(crate) fn storey_row_fault(form: u64, s: Storey, repeated: u64) -> u64
+    ensures { λ r. ⌜ r ≡ inOrder (storeyFault form s ∷ repeated ∷ []) ⌝ }
 {
-    let f = storey_fault(s);
+    let f = storey_fault(form, s);
     if f != 0 {
         return f;
     }

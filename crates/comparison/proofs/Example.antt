@@ -1,12 +1,14 @@
 -- The conditions of demand 3 can be met, and what it carries is there: two accepted surveys in different orders of storeys and members, with a column that
 -- goes from A to C, a wall, tension and damage.
-use Prim.Native.Nat.{ℕ, _+_, _-_, _≤_}
+use Prim.Native.Nat.{ℕ, zero, suc, _+_, _-_, _≤_, _<_}
 use native.Mathlib.Omega.{arith}
 use mathlib.Core.Bool.{true, false}
 use mathlib.Core.List.{[], _∷_}
 use mathlib.Core.Path.{_≡_, refl}
 use Rattle.records.specs.Notation.{everyBelow, anyBelow, first, listed, total, anyOf}
-use Rattle.records.specs.Records.{zeroForce, headerFault, storeyFault, memberFault, inCase}
+use Rattle.records.specs.Records.{zeroForce, noCase, headerFault, storeyFault, isBlank, memberFault, inCase}
+use lib.ListN.{getD}
+use Rattle.records.specs.declared.LoadCase.{LoadCase}
 use Rattle.records.specs.declared.Member.{Member}
 use Rattle.members.specs.declared.class.Class.the-variants.{ColumnA, ColumnC}
 use Rattle.members.specs.Class.{isWall, detailed, columnClass, wallClass, classOf}
@@ -15,7 +17,8 @@ use Rattle.members.specs.Limits.{interp, blend, columnA, columnB, columnC, wall
 use Rattle.members.specs.Finding.{axial, moment, stress, hoops, mLimit, rotationLimit, mDropped, isOver, findingBy, answerBy}
 use Rattle.storeys.specs.declared.BuildingAnswer.{BuildingAnswer}
 use Rattle.storeys.specs.declared.BuildingAnswer.the-variants.{Judged}
-use Rattle.storeys.specs.Storey.{publishedRules, meetsWallShare, axialTotal, overShear, someOver, damaged, allowedShare, exceedsShare, riskyByDamage, storeyRisky, storeyFinding, storeyCallFault, storeyAnswerBy}
+use Rattle.totals.specs.Share.{allowedShare, exceedsShare}
+use Rattle.storeys.specs.Storey.{publishedRules, meetsWallShare, axialTotal, overShear, someOver, damaged, riskyByDamage, caseRisky, storeyRisky, storeyFinding, storeyCallFault, storeyAnswerBy}
 use Rattle.checks.specs.Rows.{rowFault, memberRowsFault, membersBefore, membersOf, countsFault, storeyRowsFault, recordsFault}
 use Rattle.records.specs.Blank.{noMember}
 use Rattle.storeys.specs.Building.{riskyAt, tilted, someRisky, buildingRisky, buildingAnswerBy, named}
@@ -36,6 +39,9 @@ pub record Given : Type 0 where
   pub nk : ℕ
   pub ve : ℕ
   pub shear : ℕ
+
+abbrev pub case : Given → LoadCase
+case g = record { nk = g .nk; me = 500; mp = 100; ve = g .ve; vr = 1_000; shear = g .shear; rotation = 0; drift = 0 }
 
 abbrev pub member : Given → Member
 member g =
@@ -58,7 +64,7 @@ member g =
       factor = 100;
       damage = g .damage;
       nd = g .nd;
-      case = record { nk = g .nk; me = 500; mp = 100; ve = g .ve; vr = 1_000; shear = g .shear; rotation = 0; drift = 0 };
+      cases = case g ∷ noCase ∷ noCase ∷ noCase ∷ [];
     }
 
 -- a column of class A, its partner of class C
@@ -80,16 +86,16 @@ tension number pull damage =
 abbrev pub one : Survey
 one =
     record {
-      header = record { knowledge = 90; height = 9_000; storeys = 3; tilt1 = 100; tilt2 = 200; count = 2 };
-      storeys = record { number = 1; shear = 1_000; count = 2 } ∷ record { number = 2; shear = 500; count = 1 } ∷ [];
+      header = record { knowledge = 90; height = 9_000; storeys = 3; tilt1 = 100; tilt2 = 200; count = 2; form = 1 };
+      storeys = record { number = 1; shears = 1_000 ∷ 0 ∷ 0 ∷ 0 ∷ []; count = 2 } ∷ record { number = 2; shears = 500 ∷ 0 ∷ 0 ∷ 0 ∷ []; count = 1 } ∷ [];
       members = member column ∷ member (wall 2 500) ∷ member (tension 1 900 1) ∷ [];
     }
 
 abbrev pub other : Survey
 other =
     record {
-      header = record { knowledge = 90; height = 12_000; storeys = 4; tilt1 = 100; tilt2 = 300; count = 2 };
-      storeys = record { number = 8; shear = 500; count = 1 } ∷ record { number = 9; shear = 1_000; count = 2 } ∷ [];
+      header = record { knowledge = 90; height = 12_000; storeys = 4; tilt1 = 100; tilt2 = 300; count = 2; form = 1 };
+      storeys = record { number = 8; shears = 500 ∷ 0 ∷ 0 ∷ 0 ∷ []; count = 1 } ∷ record { number = 9; shears = 1_000 ∷ 0 ∷ 0 ∷ 0 ∷ []; count = 2 } ∷ [];
       members = member (tension 4 800 3) ∷ member (wall 6 600) ∷ member columnLater ∷ [];
     }
 
@@ -98,8 +104,8 @@ unfoldable pub pairs : StoreyPairs one other
 unfolding listed membersBefore membersOf
 pairs = pair (_ ∷ []) [] (pair (member (wall 6 600) ∷ []) [] (record {}) (pair [] [] (record {}) none)) (pair [] [] (pair [] [] (record {}) none) none)
 
-worse : (g h : Given) → g .long ≡ h .long → g .short ≡ h .short → g .strengthened ≡ h .strengthened → (isWall (inCase (member g)) ≡ true → g .shear ≡ h .shear) → g .nd ≤ h .nd → g .nk ≤ h .nk → g .ve ≤ h .ve → g .shear ≤ h .shear → g .damage ≤ h .damage → h .hoops ≤ g .hoops → (isWall (inCase (member g)) ≡ true → classOf 90 (inCase (member g)) ≡ classOf 90 (inCase (member h))) → (h .strengthened ≡ 1 → classOf 90 (inCase (member h)) ≡ ColumnC → classOf 90 (inCase (member g)) ≡ ColumnC) → AtLeastAsSevere SameClass 90 (member g) (member h)
-worse g h long short strengthened wall-shear nd nk ve shear damage hoops wall-class c =
+worse : (g h : Given) → g .long ≡ h .long → g .short ≡ h .short → g .strengthened ≡ h .strengthened → (isWall (inCase 0 (member g)) ≡ true → g .shear ≡ h .shear) → g .nd ≤ h .nd → g .nk ≤ h .nk → g .ve ≤ h .ve → g .shear ≤ h .shear → g .damage ≤ h .damage → h .hoops ≤ g .hoops → (isWall (inCase 0 (member g)) ≡ true → classOf 90 (inCase 0 (member g)) ≡ classOf 90 (inCase 0 (member h))) → (h .strengthened ≡ 1 → classOf 90 (inCase 0 (member h)) ≡ ColumnC → classOf 90 (inCase 0 (member g)) ≡ ColumnC) → AtLeastAsSevere SameClass 1 90 (member g) (member h)
+worse g h long short strengthened wall-shear nd nk ve shear damage hoops wall-class c zero l =
     record {
       long = long;
       short = short;
@@ -130,38 +136,45 @@ worse g h long short strengthened wall-shear nd nk ve shear damage hoops wall-cl
       wall-class = wall-class;
       strengthened-c = λ e f d. c f d;
     }
+worse g h long short strengthened wall-shear nd nk ve shear damage hoops wall-class c (suc i) l = let z : ⊥ = omega arith in absurd z
 
-column-worse : AtLeastAsSevere SameClass 90 (member column) (member columnLater)
+column-worse : AtLeastAsSevere SameClass 1 90 (member column) (member columnLater)
 column-worse =
     worse column columnLater refl refl refl (λ e. absurd (never e)) (omega arith) (omega arith) (omega arith) (omega arith) (omega arith) (omega arith) (λ e. absurd (never e))
     (λ e f. let z : ⊥ = omega (arith, e) in absurd z)
 
-wall-worse : AtLeastAsSevere SameClass 90 (member (wall 2 500)) (member (wall 6 600))
+wall-worse : AtLeastAsSevere SameClass 1 90 (member (wall 2 500)) (member (wall 6 600))
 unfolding classOf wallClass
 wall-worse =
     worse (wall 2 500) (wall 6 600) refl refl refl (λ e. refl) (omega arith) (omega arith) (omega arith) (omega arith) (omega arith) (omega arith) (λ e. refl)
     (λ e f. let z : ⊥ = omega (arith, e) in absurd z)
 
-tension-worse : AtLeastAsSevere SameClass 90 (member (tension 1 900 1)) (member (tension 4 800 3))
+tension-worse : AtLeastAsSevere SameClass 1 90 (member (tension 1 900 1)) (member (tension 4 800 3))
 unfolding classOf detailed columnClass
 tension-worse =
     worse (tension 1 900 1) (tension 4 800 3) refl refl refl (λ e. absurd (never e)) (omega arith) (omega arith) (omega arith) (omega arith) (omega arith) (omega arith) (λ e. absurd (never e))
     (λ e f. f)
+
+-- the only shear of the old form
+same-shears : {x y : ℕ} → x ≡ y → (c : ℕ) → c < 1 → getD (x ∷ 0 ∷ 0 ∷ 0 ∷ []) c 0 ≡ getD (y ∷ 0 ∷ 0 ∷ 0 ∷ []) c 0
+same-shears e zero l = e
+same-shears e (suc c) l = let z : ⊥ = omega arith in absurd z
 
 -- all conditions on the two surveys and their pairs
 pub met : NowhereBetter SameClass one other pairs
 unfolding pairs listed membersBefore membersOf EveryPair
 met =
     record {
+      form = refl;
       knowledge = refl;
       tilt1 = omega arith;
       tilt2 = omega arith;
       storeys =
-          (record { shear = refl; members = (column-worse, (wall-worse, record {})) }, (record { shear = refl; members = (tension-worse, record {}) }, record {}));
+          (record { shear = same-shears refl; members = (column-worse, (wall-worse, record {})) }, (record { shear = same-shears refl; members = (tension-worse, record {}) }, record {}));
     }
 
 -- the classes of the column and its partner
-pub classes : (classOf 90 (inCase (member column)) ≡ ColumnA) × (classOf 90 (inCase (member columnLater)) ≡ ColumnC)
+pub classes : (classOf 90 (inCase 0 (member column)) ≡ ColumnA) × (classOf 90 (inCase 0 (member columnLater)) ≡ ColumnC)
 unfolding classOf detailed columnClass
 classes = (refl, refl)
 
@@ -176,12 +189,12 @@ answerOther = Judged (record { tilted = false; risky = true; place = 1 })
 pub record Found : Type 0 where
   pub one-accepted : Accepted publishedRules one answerOne
   pub other-accepted : Accepted publishedRules other answerOther
-  pub column-over : Over publishedRules one (storeyMembersAt one 0) (member column)
+  pub column-over : Over publishedRules one (storeyMembersAt one 0) 0 (member column)
   pub storey-risky : Risky publishedRules one (storeyMembersAt one 1)
   pub building-risky : buildingRiskyIn answerOne ≡ true
 
 pub found : Found
-unfolding everyBelow anyBelow first headerFault storeyFault memberFault detailed columnClass wallClass classOf places moments rotations interp blend columnA columnB columnC wallRows wallB mLimitAt rotationLimitAt axial moment stress hoops mLimit rotationLimit mDropped isOver findingBy answerBy total anyOf meetsWallShare axialTotal overShear someOver damaged allowedShare exceedsShare riskyByDamage storeyRisky storeyFinding noMember rowFault memberRowsFault storeyCallFault storeyAnswerBy membersBefore membersOf riskyAt countsFault storeyRowsFault recordsFault tilted someRisky buildingRisky buildingAnswerBy
+unfolding everyBelow anyBelow first headerFault storeyFault isBlank memberFault detailed columnClass wallClass classOf places moments rotations interp blend columnA columnB columnC wallRows wallB mLimitAt rotationLimitAt axial moment stress hoops mLimit rotationLimit mDropped isOver findingBy answerBy total anyOf meetsWallShare axialTotal overShear someOver damaged allowedShare exceedsShare riskyByDamage caseRisky storeyRisky storeyFinding noMember rowFault memberRowsFault storeyCallFault storeyAnswerBy membersBefore membersOf riskyAt countsFault storeyRowsFault recordsFault tilted someRisky buildingRisky buildingAnswerBy
 found =
     record {
       one-accepted = record { answers = record { same = refl; place = named 1 (omega arith) refl }; no-refusal = refl };
@@ -196,6 +209,6 @@ pub carried : Carried publishedRules one other answerOne answerOther pairs
 carried = demand3 one other answerOne answerOther (found .one-accepted) (found .other-accepted) pairs met
 
 -- so the partners are over and Risky
-pub partners : Over publishedRules other (storeyMembersAt other 1) (member columnLater) × Risky publishedRules other (storeyMembersAt other 0) × (buildingRiskyIn answerOther ≡ true)
+pub partners : Over publishedRules other (storeyMembersAt other 1) 0 (member columnLater) × Risky publishedRules other (storeyMembersAt other 0) × (buildingRiskyIn answerOther ≡ true)
 unfolding pairs listed membersBefore membersOf EveryPair
-partners = (carried .members .0 .0 (found .column-over), carried .storeys .1 .0 (found .storey-risky), carried .building (found .building-risky))
+partners = (carried .members .0 .0 0 (omega arith) (found .column-over), carried .storeys .1 .0 (found .storey-risky), carried .building (found .building-risky))

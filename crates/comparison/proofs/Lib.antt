@@ -8,4 +8,5 @@ pub mod Storeys
 pub mod Accepted
 pub mod Demand3
 pub mod Example
+pub mod ExampleCases
 pub mod Needed

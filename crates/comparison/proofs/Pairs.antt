@@ -49,6 +49,12 @@ module _ {A B : Type 0} {Q : A → B → Type 0} where
   both R S none u v = u
   both R S (pair before after q p) u v = ((u .0, v .0), both R S p (u .1) (v .1))
 
+  -- what holds of every pair for each number below n holds of every pair for all of them
+  pub for-each : (n : ℕ) (R : ℕ → (x : A) (y : B) → Q x y → Type 0) {xs : List A} {ys : List B} (p : Pairing Q xs ys) → ((c : ℕ) → c < n → EveryPair (R c) p) → EveryPair (λ x y q. (c : ℕ) → c < n → R c x y q) p
+  unfolding EveryPair
+  for-each n R none h = record {}
+  for-each n R (pair before after q p) h = (λ c l. h c l .0, for-each n R p (λ c l. h c l .1))
+
   pub total-le : (f : A → ℕ) (g : B → ℕ) {xs : List A} {ys : List B} (p : Pairing Q xs ys) → EveryPair (λ x y q. f x ≤ g y) p → total f xs ≤ total g ys
   unfolding total EveryPair
   total-le f g none u = omega arith

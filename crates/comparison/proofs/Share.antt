@@ -9,7 +9,7 @@ use Rattle.members.specs.declared.limits.Fraction.{Fraction}
 use Rattle.members.specs.declared.tables.Share.{Share}
 use Rattle.members.proofs.Fractions.{_⊑_}
 use Rattle.members.proofs.Falling.{end, step, positive, falls}
-use Rattle.storeys.specs.Storey.{allowedShare, exceedsShare}
+use Rattle.totals.specs.Share.{allowedShare, exceedsShare}
 use Rattle.comparison.proofs.Tests.{ltb-carried}
 
 -- a part p / w above one value, and as great a part above a value that is no greater

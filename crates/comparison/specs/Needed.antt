@@ -4,7 +4,7 @@ use Prim.Native.Nat.{ℕ, _+_}
 use mathlib.Core.List.{List, [], _∷_, _++_, map}
 use mathlib.Core.Path.{_≡_}
 use lib.ListN.{take}
-use Rattle.records.specs.Records.{zeroForce}
+use Rattle.records.specs.Records.{zeroForce, noCase}
 use Rattle.members.specs.Finding.{hoops}
 use Rattle.storeys.specs.Storey.{publishedRules}
 use Rattle.storeys.specs.Building.{buildingAnswerBy, returnedBuilding}
@@ -32,8 +32,8 @@ pub record Given : Type 0 where
 abbrev pub neededSurvey : Given → Survey
 neededSurvey g =
     record {
-      header = record { knowledge = g .k; height = 9_000; storeys = 3; tilt1 = 0; tilt2 = 0; count = 1 };
-      storeys = record { number = 1; shear = g .storeyShear; count = 1 } ∷ [];
+      header = record { knowledge = g .k; height = 9_000; storeys = 3; tilt1 = 0; tilt2 = 0; count = 1; form = 1 };
+      storeys = record { number = 1; shears = g .storeyShear ∷ 0 ∷ 0 ∷ 0 ∷ []; count = 1 } ∷ [];
       members =
           record {
             number = 1;
@@ -54,7 +54,7 @@ neededSurvey g =
             factor = 100;
             damage = 0;
             nd = zeroForce;
-            case =
+            cases =
                 record {
                   nk = zeroForce + g .nk;
                   me = g .me;
@@ -64,7 +64,8 @@ neededSurvey g =
                   shear = g .shear;
                   rotation = g .rotation;
                   drift = g .drift;
-                };
+                }
+                ∷ noCase ∷ noCase ∷ noCase ∷ [];
           }
           ∷ [];
     }

@@ -10,7 +10,7 @@ use Rattle.report.specs.Sheet.{refusalLine}
 
 -- the header of a refused file: blank
 abbrev pub blank : Header
-blank = record { knowledge = 0; height = 0; storeys = 0; tilt1 = 0; tilt2 = 0; count = 0 }
+blank = record { knowledge = 0; height = 0; storeys = 0; tilt1 = 0; tilt2 = 0; count = 0; form = 0 }
 
 abbrev pub headerTold : Told → Header
 headerTold (filled h storeys members) = h

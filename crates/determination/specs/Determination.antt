@@ -14,9 +14,9 @@ storeyRows = 10
 abbrev pub memberRows : ℕ
 memberRows = 320
 
--- how many bytes the longest sheet of these rows has
+-- how many bytes the longest sheet of these rows has: that of four load cases
 abbrev pub sheetMost : ℕ
-sheetMost = sheetSize storeyRows memberRows
+sheetMost = sheetSize 2 storeyRows memberRows
 
 -- "the sheet, or one line `E` with refusal and line": what a read file comes to, for a buffer of so many bytes. The program lends as many as the longest sheet has (`sheetMost`), so that 9 does not occur there (`never-nine` of proofs/Room)
 unfoldable pub text : Outcome → ℕ → List ℕ

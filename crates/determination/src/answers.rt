@@ -2,29 +2,29 @@
 ghost use mathlib.Core.Path.{_≡_};
 ghost use lib.ListN.{length};
 ghost use Rattle.reading.specs.Answer.{tells};
-ghost use Rattle.records.specs.Records.{storeyBy, memberBy};
+ghost use Rattle.records.specs.Records.{storeyBy, memberBy, oldCases};
 ghost use Rattle.determination.specs.Answers.{headerTold, membersTold, lengthBy, bytesBy, lengthTold, bytesTold};
 use reading::survey::ReadAnswer;
 use reading::survey::Reading;
+use records::FIELDS_MOST;
 use records::Header;
 use records::Member;
 use records::Storey;
 use records::numbers::member_of;
 use records::numbers::storey_of;
-use records::ranges::FIELDS_MOST;
 use report::ReportAnswer;
 use report::ReportJudgment;
 use report::refusal_line::write_refusal;
 
 // What the rows hold before a file is read into them.
 pub(crate) fn blank_storey() -> Storey
-    ensures { λ r. ⌜ r ≡ storeyBy (λ _. 0) ⌝ }
+    ensures { λ r. ⌜ r ≡ storeyBy 1 (λ _. 0) ⌝ }
 {
-    storey_of([0; FIELDS_MOST])
+    storey_of(1, [0; FIELDS_MOST])
 }
 
 pub(crate) fn blank_member() -> Member
-    ensures { λ r. ⌜ r ≡ memberBy (λ _. 0) ⌝ }
+    ensures { λ r. ⌜ r ≡ memberBy (λ _. 0) (oldCases (λ _. 0)) ⌝ }
 {
     member_of([0; FIELDS_MOST])
 }
@@ -43,6 +43,7 @@ pub(crate) fn header_in(r: Reading) -> Header
             tilt1: 0,
             tilt2: 0,
             count: 0,
+            form: 0,
         },
     }
 }

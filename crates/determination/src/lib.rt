@@ -12,9 +12,10 @@ use crate::answers::header_in;
 use crate::answers::members_in;
 use reading::rows::read;
 use reading::survey::storeys_read;
+use records::CASES;
 use report::BUILDING_LINE_SIZE;
-use report::MEMBER_LINE_SIZE;
-use report::STOREY_LINE_SIZE;
+use report::MEMBER_CASE_LINE_SIZE;
+use report::STOREY_CASE_LINE_SIZE;
 use report::refusal_line::write_refusal;
 use report::sheet::write_report;
 
@@ -28,9 +29,9 @@ pub const STOREY_ROWS: usize = 10;
 
 pub const MEMBER_ROWS: usize = 320;
 
-// The longest sheet of these rows.
-pub const SHEET_MOST: usize = MEMBER_LINE_SIZE * MEMBER_ROWS
-    + STOREY_LINE_SIZE * STOREY_ROWS
+// The longest sheet of these rows: that of four load cases.
+pub const SHEET_MOST: usize = CASES
+    * (MEMBER_CASE_LINE_SIZE * MEMBER_ROWS + STOREY_CASE_LINE_SIZE * STOREY_ROWS)
     + BUILDING_LINE_SIZE;
 
 // An input that is not too long: a refused one has a blank header and no rows, of which the report call writes nothing.

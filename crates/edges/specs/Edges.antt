@@ -1,4 +1,4 @@
--- The edges of document 01 as one table. Each value is one of the answer that the contract of its call cites.
+-- The edges of document 01 as one table, over records of the old form. Each value is one of the answer that the contract of its call cites.
 use Prim.Native.Nat.{ℕ, _+_}
 use mathlib.Core.Bool.{false}
 use mathlib.Core.List.{List, [], _∷_, map}
@@ -6,16 +6,17 @@ use mathlib.Core.Path.{_≡_}
 use lib.Dec.{eqb}
 use lib.ListN.{length, getD, take}
 use Rattle.records.specs.Notation.{pick, listed}
-use Rattle.records.specs.Records.{zeroForce, surveyOf}
+use Rattle.records.specs.Records.{zeroForce, noCase, surveyOf}
 use Rattle.records.specs.declared.Header.{Header}
 use Rattle.records.specs.declared.Storey.{Storey}
 use Rattle.records.specs.declared.Member.{Member}
-use Rattle.members.specs.Finding.{hoops, memberReturned}
+use Rattle.members.specs.declared.finding.Met.{Met}
+use Rattle.members.specs.Finding.{memberReturned}
 use Rattle.storeys.specs.Storey.{publishedRules, storeyReturned}
 use Rattle.storeys.specs.Building.{buildingAnswerBy, returnedBuilding}
 
 -- a member whose n is N_K and whose n_D is N_D, ρ 25 × A_sh, and with a short side of 100 v 10 × V_e
-pub record Case : Type 0 where
+pub record Numbers : Type 0 where
   pub number : ℕ
   pub long : ℕ
   pub short : ℕ
@@ -30,12 +31,12 @@ pub record Case : Type 0 where
   pub vr : ℕ
   pub shear : ℕ
 
-abbrev pub edgeMember : Case → Member
-edgeMember c =
+abbrev pub edgeMember : Numbers → Member
+edgeMember v =
     record {
-      number = c .number;
-      long = c .long;
-      short = c .short;
+      number = v .number;
+      long = v .long;
+      short = v .short;
       area = 1_000_000;
       fcm = 100;
       fctm = 100;
@@ -44,14 +45,16 @@ edgeMember c =
       height = 3_000;
       spacing = 100;
       core = 400;
-      hoops = c .hoops;
-      hooks = c .hooks;
+      hoops = v .hoops;
+      hooks = v .hooks;
       zone = 1;
-      strengthened = c .strengthened;
+      strengthened = v .strengthened;
       factor = 100;
-      damage = c .damage;
-      nd = zeroForce + c .nd;
-      case = record { nk = zeroForce + c .nk; me = c .me; mp = 100; ve = c .ve; vr = c .vr; shear = c .shear; rotation = 0; drift = 0 };
+      damage = v .damage;
+      nd = zeroForce + v .nd;
+      cases =
+          record { nk = zeroForce + v .nk; me = v .me; mp = 100; ve = v .ve; vr = v .vr; shear = v .shear; rotation = 0; drift = 0 }
+          ∷ noCase ∷ noCase ∷ noCase ∷ [];
     }
 
 -- columns with n, hooks, the mark, V_e and V_r; a wall with n and V_e
@@ -68,26 +71,30 @@ abbrev pub loaded : ℕ → ℕ → ℕ → ℕ → ℕ → Member
 loaded i nd me shear damage =
     edgeMember (record { number = i; long = 400; short = 250; hoops = 130; hooks = 1; strengthened = 0; damage = damage; nd = nd; nk = 0; me = me; ve = 0; vr = 1; shear = shear })
 
+-- in a storey that does not meet the 0.40 condition
+abbrev pub notMet : Met
+notMet = record { case1 = false; case2 = false; case3 = false; case4 = false }
+
 -- class and limits that a member with k 100 or 90 is answered
 abbrev pub limits : ℕ → Member → List ℕ
 limits k m =
-    let vs = memberReturned k false m .values in
+    let vs = memberReturned k 1 notMet m .values in
     getD vs 0 0 ∷ getD vs 2 0 ∷ getD vs 4 0 ∷ []
 
 abbrev pub class : ℕ → Member → List ℕ
-class k m = getD (memberReturned k false m .values) 0 0 ∷ []
+class k m = getD (memberReturned k 1 notMet m .values) 0 0 ∷ []
 
--- Σ, c, P, W and Risky of a storey with the shear 1,000
+-- Risky, then Σ, c, P, W and Risky in its load case, of a storey with the shear 1,000
 abbrev pub edgeStorey : List Member → Storey
-edgeStorey ms = record { number = 1; shear = 1_000; count = length ms }
+edgeStorey ms = record { number = 1; shears = 1_000 ∷ 0 ∷ 0 ∷ 0 ∷ []; count = length ms }
 
 abbrev pub verdict : List Member → List ℕ
-verdict ms = take 5 (storeyReturned 100 (edgeStorey ms) ms .values)
+verdict ms = take 6 (storeyReturned 100 1 (edgeStorey ms) ms .values)
 
 -- tilt and Risky of a building with one storey of one member; the place that it names is not asked for
 abbrev pub tilt : ℕ → ℕ → List ℕ
 tilt t1 t2 =
-    let h : Header = record { knowledge = 100; height = 9_000; storeys = 3; tilt1 = t1; tilt2 = t2; count = 1 } in
+    let h : Header = record { knowledge = 100; height = 9_000; storeys = 3; tilt1 = t1; tilt2 = t2; count = 1; form = 1 } in
     let ms : List Member = loaded 1 0 0 0 0 ∷ [] in
     take 2 (returnedBuilding (buildingAnswerBy publishedRules (surveyOf h (edgeStorey ms ∷ []) ms) 0) .values)
 
@@ -119,14 +126,14 @@ edges =
     ∷ edge (class 90 (edgeColumn 0 1 0 63 100)) (1 ∷ [])
     ∷ edge (class 90 (edgeColumn 0 1 0 64 100)) (2 ∷ [])
     -- (g) Σ 75,000, c 2: P 175 of 1,000 passes, 176 is Risky
-    ∷ edge (verdict (loaded 1 35_000 1_000 175 0 ∷ loaded 2 40_000 0 500 0 ∷ [])) (75_000 ∷ 2 ∷ 175 ∷ 1_000 ∷ 0 ∷ [])
-    ∷ edge (verdict (loaded 1 35_000 1_000 176 0 ∷ loaded 2 40_000 0 500 0 ∷ [])) (75_000 ∷ 2 ∷ 176 ∷ 1_000 ∷ 1 ∷ [])
+    ∷ edge (verdict (loaded 1 35_000 1_000 175 0 ∷ loaded 2 40_000 0 500 0 ∷ [])) (0 ∷ 75_000 ∷ 2 ∷ 175 ∷ 1_000 ∷ 0 ∷ [])
+    ∷ edge (verdict (loaded 1 35_000 1_000 176 0 ∷ loaded 2 40_000 0 500 0 ∷ [])) (1 ∷ 75_000 ∷ 2 ∷ 176 ∷ 1_000 ∷ 1 ∷ [])
     -- (h) Σ = 65,000 × c with one member over of V 0 passes; Σ one more is Risky
-    ∷ edge (verdict (loaded 1 65_000 1_000 0 0 ∷ loaded 2 65_000 0 500 0 ∷ [])) (130_000 ∷ 2 ∷ 0 ∷ 1_000 ∷ 0 ∷ [])
-    ∷ edge (verdict (loaded 1 65_001 1_000 0 0 ∷ loaded 2 65_000 0 500 0 ∷ [])) (130_001 ∷ 2 ∷ 0 ∷ 1_000 ∷ 1 ∷ [])
+    ∷ edge (verdict (loaded 1 65_000 1_000 0 0 ∷ loaded 2 65_000 0 500 0 ∷ [])) (0 ∷ 130_000 ∷ 2 ∷ 0 ∷ 1_000 ∷ 0 ∷ [])
+    ∷ edge (verdict (loaded 1 65_001 1_000 0 0 ∷ loaded 2 65_000 0 500 0 ∷ [])) (1 ∷ 130_001 ∷ 2 ∷ 0 ∷ 1_000 ∷ 1 ∷ [])
     -- (i) one damage 4 among 20 is Risky, among 21 not
-    ∷ edge (verdict (oneDamaged 20)) (0 ∷ 20 ∷ 0 ∷ 1_000 ∷ 1 ∷ [])
-    ∷ edge (verdict (oneDamaged 21)) (0 ∷ 21 ∷ 0 ∷ 1_000 ∷ 0 ∷ [])
+    ∷ edge (verdict (oneDamaged 20)) (1 ∷ 0 ∷ 20 ∷ 0 ∷ 1_000 ∷ 1 ∷ [])
+    ∷ edge (verdict (oneDamaged 21)) (0 ∷ 0 ∷ 21 ∷ 0 ∷ 1_000 ∷ 0 ∷ [])
     -- (j) tilt 25,000 passes, 25,001 doesn't
     ∷ edge (tilt 25_000 0) (0 ∷ 0 ∷ [])
     ∷ edge (tilt 0 25_001) (1 ∷ 1 ∷ [])

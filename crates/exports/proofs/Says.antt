@@ -14,11 +14,11 @@ use Rattle.reading.specs.Answer.{told, storeysAfter, membersAfter}
 use Rattle.walk.proofs.Fn.{Plain}
 use Rattle.walk.proofs.Slice.{R}
 use Rattle.records.proofs.Structs.{member, storey}
-use Rattle.records.specs.Records.{headerBy, storeyBy, surveyOf}
+use Rattle.records.specs.Records.{surveyOf}
 use Rattle.storeys.specs.Storey.{storeyReturned}
 use Rattle.report.specs.Sheet.{reportReturned, bufferAfter}
 use Rattle.writing.specs.Writing.{fileReturned, fileAfter}
-use Rattle.words.specs.Words.{handed}
+use Rattle.handed.specs.Handed.{headerHanded, storeyHanded}
 use Rattle.exports.specs.Calls.{readingCount, storeyCount, reportCount, fileCount, ifRoom, given, outAfter, readingReturned, BuildingGiven}
 
 abbrev pub bytes : RattleType
@@ -38,12 +38,12 @@ llunareth-read = record {
       ∷ [];
 }
 
-abbrev pub llunareth-judge-storey : Plain {n = 3} (pNum w64 ∷ pShrS words 0 tt ∷ pShrS (R member) 1 tt ∷ pMutS words 2 tt ∷ []) (rNum w64)
+abbrev pub llunareth-judge-storey : Plain {n = 3} (pNum w64 ∷ pNum w64 ∷ pShrS words 0 tt ∷ pShrS (R member) 1 tt ∷ pMutS words 2 tt ∷ []) (rNum w64)
 llunareth-judge-storey = record {
   requires = λ κs a. [];
   ensures = λ κs a z e.
-      (z ≡ given storeyCount (storeyReturned (a .0) (storeyBy (handed (a .1 .0 .now))) (a .1 .1 .0 .now)) (a .1 .1 .1 .0 .now))
-      ∷ (e .1 .1 .1 .0 .now ≡ outAfter storeyCount (storeyReturned (a .0) (storeyBy (handed (a .1 .0 .now))) (a .1 .1 .0 .now)) (a .1 .1 .1 .0 .now))
+      (z ≡ given storeyCount (storeyReturned (a .0) (a .1 .0) (storeyHanded (a .1 .1 .0 .now)) (a .1 .1 .1 .0 .now)) (a .1 .1 .1 .1 .0 .now))
+      ∷ (e .1 .1 .1 .1 .0 .now ≡ outAfter storeyCount (storeyReturned (a .0) (a .1 .0) (storeyHanded (a .1 .1 .0 .now)) (a .1 .1 .1 .0 .now)) (a .1 .1 .1 .1 .0 .now))
       ∷ [];
 }
 
@@ -51,16 +51,16 @@ abbrev pub llunareth-judge-building : Plain {n = 4} (pShrS words 0 tt ∷ pShrS 
 llunareth-judge-building = record {
   requires = λ κs a. [];
   ensures = λ κs a z e.
-      BuildingGiven (surveyOf (headerBy (handed (a .0 .now))) (a .1 .0 .now) (a .1 .1 .0 .now)) (a .1 .1 .1 .0 .now) z (e .1 .1 .1 .0 .now) ∷ [];
+      BuildingGiven (surveyOf (headerHanded (a .0 .now)) (a .1 .0 .now) (a .1 .1 .0 .now)) (a .1 .1 .1 .0 .now) z (e .1 .1 .1 .0 .now) ∷ [];
 }
 
 abbrev pub llunareth-report : Plain {n = 5} (pShrS words 0 tt ∷ pShrS (R storey) 1 tt ∷ pShrS (R member) 2 tt ∷ pMutS bytes 3 tt ∷ pMutS words 4 tt ∷ []) (rNum w64)
 llunareth-report = record {
   requires = λ κs a. [];
   ensures = λ κs a z e.
-      (z ≡ given reportCount (reportReturned (surveyOf (headerBy (handed (a .0 .now))) (a .1 .0 .now) (a .1 .1 .0 .now)) (length (a .1 .1 .1 .0 .now))) (a .1 .1 .1 .1 .0 .now))
-      ∷ (e .1 .1 .1 .1 .0 .now ≡ outAfter reportCount (reportReturned (surveyOf (headerBy (handed (a .0 .now))) (a .1 .0 .now) (a .1 .1 .0 .now)) (length (a .1 .1 .1 .0 .now))) (a .1 .1 .1 .1 .0 .now))
-      ∷ (e .1 .1 .1 .0 .now ≡ ifRoom reportCount (a .1 .1 .1 .1 .0 .now) (bufferAfter (surveyOf (headerBy (handed (a .0 .now))) (a .1 .0 .now) (a .1 .1 .0 .now)) (a .1 .1 .1 .0 .now)) (a .1 .1 .1 .0 .now))
+      (z ≡ given reportCount (reportReturned (surveyOf (headerHanded (a .0 .now)) (a .1 .0 .now) (a .1 .1 .0 .now)) (length (a .1 .1 .1 .0 .now))) (a .1 .1 .1 .1 .0 .now))
+      ∷ (e .1 .1 .1 .1 .0 .now ≡ outAfter reportCount (reportReturned (surveyOf (headerHanded (a .0 .now)) (a .1 .0 .now) (a .1 .1 .0 .now)) (length (a .1 .1 .1 .0 .now))) (a .1 .1 .1 .1 .0 .now))
+      ∷ (e .1 .1 .1 .0 .now ≡ ifRoom reportCount (a .1 .1 .1 .1 .0 .now) (bufferAfter (surveyOf (headerHanded (a .0 .now)) (a .1 .0 .now) (a .1 .1 .0 .now)) (a .1 .1 .1 .0 .now)) (a .1 .1 .1 .0 .now))
       ∷ [];
 }
 
@@ -68,8 +68,8 @@ abbrev pub llunareth-write : Plain {n = 5} (pShrS words 0 tt ∷ pShrS (R storey
 llunareth-write = record {
   requires = λ κs a. [];
   ensures = λ κs a z e.
-      (z ≡ given fileCount (fileReturned (surveyOf (headerBy (handed (a .0 .now))) (a .1 .0 .now) (a .1 .1 .0 .now)) (length (a .1 .1 .1 .0 .now))) (a .1 .1 .1 .1 .0 .now))
-      ∷ (e .1 .1 .1 .1 .0 .now ≡ outAfter fileCount (fileReturned (surveyOf (headerBy (handed (a .0 .now))) (a .1 .0 .now) (a .1 .1 .0 .now)) (length (a .1 .1 .1 .0 .now))) (a .1 .1 .1 .1 .0 .now))
-      ∷ (e .1 .1 .1 .0 .now ≡ ifRoom fileCount (a .1 .1 .1 .1 .0 .now) (fileAfter (surveyOf (headerBy (handed (a .0 .now))) (a .1 .0 .now) (a .1 .1 .0 .now)) (a .1 .1 .1 .0 .now)) (a .1 .1 .1 .0 .now))
+      (z ≡ given fileCount (fileReturned (surveyOf (headerHanded (a .0 .now)) (a .1 .0 .now) (a .1 .1 .0 .now)) (length (a .1 .1 .1 .0 .now))) (a .1 .1 .1 .1 .0 .now))
+      ∷ (e .1 .1 .1 .1 .0 .now ≡ outAfter fileCount (fileReturned (surveyOf (headerHanded (a .0 .now)) (a .1 .0 .now) (a .1 .1 .0 .now)) (length (a .1 .1 .1 .0 .now))) (a .1 .1 .1 .1 .0 .now))
+      ∷ (e .1 .1 .1 .0 .now ≡ ifRoom fileCount (a .1 .1 .1 .1 .0 .now) (fileAfter (surveyOf (headerHanded (a .0 .now)) (a .1 .0 .now) (a .1 .1 .0 .now)) (a .1 .1 .1 .0 .now)) (a .1 .1 .1 .0 .now))
       ∷ [];
 }

@@ -5,8 +5,10 @@ use mathlib.Core.Path.{_≡_}
 use lib.Dec.{leb}
 use lib.ListN.{length}
 use Rattle.records.specs.Notation.{pick}
+use mathlib.Core.Bool.{Bool}
 use Rattle.members.specs.Finding.{Returned}
-use Rattle.words.specs.Words.{packed}
+use Rattle.members.specs.declared.finding.Met.{Met}
+use Rattle.answers.specs.Packing.{packed}
 use Rattle.reading.specs.Answer.{Told, filled, refusal}
 use Rattle.records.specs.Records.{Survey}
 use Rattle.storeys.specs.declared.BuildingAnswer.{BuildingAnswer}
@@ -16,17 +18,17 @@ use Rattle.storeys.specs.Building.{Answers, returnedBuilding}
 
 -- the form of the calls: a change of one raises it
 abbrev pub version : ℕ
-version = 5
+version = 6
 
--- how many values each call puts to the front of `out`
+-- how many values each call puts to the front of `out`; on a member and on a storey at most: those of four cases
 abbrev pub readingCount : ℕ
-readingCount = 8
+readingCount = 9
 
 abbrev pub memberCount : ℕ
-memberCount = 7
+memberCount = 40
 
 abbrev pub storeyCount : ℕ
-storeyCount = 6
+storeyCount = 45
 
 abbrev pub buildingCount : ℕ
 buildingCount = 3
@@ -36,6 +38,10 @@ reportCount = 1
 
 abbrev pub fileCount : ℕ
 fileCount = 1
+
+-- the 0.40 condition by case
+abbrev pub metBy : Bool → Bool → Bool → Bool → Met
+metBy a b c d = record { case1 = a; case2 = b; case3 = c; case4 = d }
 
 -- given where `out` is too short for the values; no refusal is packed as this
 abbrev pub short : ℕ
@@ -53,13 +59,13 @@ given count r out = ifRoom count out (packed r) short
 abbrev pub outAfter : ℕ → Returned → List ℕ → List ℕ
 outAfter count r out = ifRoom count out (atFront (r .values) out) out
 
--- what reading returns: the header's six fields and the numbers of storey and member rows filled; or the refusal with its line
+-- what reading returns: the header's seven numbers and the numbers of storey and member rows filled; or the refusal with its line
 abbrev pub readingReturned : Told → Returned
 readingReturned (filled h storeys members) =
     record {
       refusal = 0;
       line = 0;
-      values = h .knowledge ∷ h .height ∷ h .storeys ∷ h .tilt1 ∷ h .tilt2 ∷ h .count ∷ storeys ∷ members ∷ [];
+      values = h .knowledge ∷ h .height ∷ h .storeys ∷ h .tilt1 ∷ h .tilt2 ∷ h .count ∷ h .form ∷ storeys ∷ members ∷ [];
     }
 readingReturned (refusal number line) = record { refusal = number; line = line; values = [] }
 

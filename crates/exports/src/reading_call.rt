@@ -4,29 +4,29 @@ ghost use Prim.Native.Nat.{_≤_};
 ghost use lib.ListN.{length};
 ghost use Rattle.reading.specs.Survey.{survey};
 ghost use Rattle.reading.specs.Answer.{tells, told, storeysAfter, membersAfter};
-ghost use Rattle.words.specs.Words.{packing, packed};
+ghost use Rattle.answers.specs.Packing.{packing, packed};
 ghost use Rattle.exports.specs.Calls.{readingCount, ifRoom, given, outAfter, readingReturned};
 ghost use Rattle.columns.specs.Line.{atFront};
 use crate::SHORT;
+use answers::put_words;
 use reading::survey::ReadAnswer;
 use reading::survey::Reading;
 use records::Member;
 use records::Storey;
-use words::put_words;
 
-const READING_COUNT: usize = 8;
+const READING_COUNT: usize = 9;
 
 // A refusal and its line in one number. On records the line is 0, and the refusal stands for both.
 fn pack(refusal: u64, line: u64) -> u64
-    requires { ⌜ (refusal ≤ 9) × (line ≤ 65_536) ⌝ }
+    requires { ⌜ (refusal ≤ 12) × (line ≤ 65_536) ⌝ }
     ensures { λ r. ⌜ r ≡ packing refusal line ⌝ }
 {
     refusal + 256 * line
 }
 
-// Puts the values of an accepted file: the header's six fields, the numbers of rows filled. Gives refusal and line.
+// Puts the values of an accepted file: the header's seven numbers, the numbers of rows filled. Gives refusal and line.
 fn put_reading(out: &mut [u64], r: Reading) -> u64
-    requires { ⌜ (readingReturned (tells (r .answer)) .refusal ≤ 9) × (readingReturned (tells (r .answer)) .line ≤ 65_536) ⌝ }
+    requires { ⌜ (readingReturned (tells (r .answer)) .refusal ≤ 12) × (readingReturned (tells (r .answer)) .line ≤ 65_536) ⌝ }
     ensures { λ n. ⌜ n ≡ packed (readingReturned (tells (r .answer))) ⌝ }
     ensures { λ _. ⌜ now (out .exit) ≡ atFront (readingReturned (tells (r .answer)) .values) (now (out .entry)) ⌝ }
 {
@@ -44,6 +44,7 @@ fn put_reading(out: &mut [u64], r: Reading) -> u64
                 header.tilt1,
                 header.tilt2,
                 header.count,
+                header.form,
                 storeys as u64,
                 members as u64,
             ];

@@ -1,19 +1,19 @@
 // The report call, and the way from a file's bytes to the sheet's.
 ghost use mathlib.Core.Path.{_≡_};
 ghost use lib.ListN.{length};
-ghost use Rattle.records.specs.Records.{headerBy, surveyOf};
+ghost use Rattle.records.specs.Records.{surveyOf};
 ghost use Rattle.columns.specs.Line.{atFront, putLength};
 ghost use Rattle.report.specs.Sheet.{reportReturned, bufferAfter};
 ghost use Rattle.determination.specs.Determination.{printed};
-ghost use Rattle.words.specs.Words.{handed};
+ghost use Rattle.handed.specs.Handed.{headerHanded};
 ghost use Rattle.exports.specs.Calls.{reportCount, ifRoom, given, outAfter};
 use crate::SHORT;
+use answers::survey::put_report;
 use determination::determine;
+use handed::header_given;
 use records::Member;
 use records::Storey;
 use report::sheet::write_report;
-use words::answers::put_report;
-use words::given::header_given;
 
 const REPORT_COUNT: usize = 1;
 
@@ -26,9 +26,9 @@ pub extern "C" fn llunareth_report(
     sheet: &mut [u8],
     out: &mut [u64],
 ) -> u64
-    ensures { λ r. ⌜ r ≡ given reportCount (reportReturned (surveyOf (headerBy (handed (now (header .entry)))) (now (storeys .entry)) (now (members .entry))) (length (now (sheet .entry)))) (now (out .entry)) ⌝ }
-    ensures { λ _. ⌜ now (out .exit) ≡ outAfter reportCount (reportReturned (surveyOf (headerBy (handed (now (header .entry)))) (now (storeys .entry)) (now (members .entry))) (length (now (sheet .entry)))) (now (out .entry)) ⌝ }
-    ensures { λ _. ⌜ now (sheet .exit) ≡ ifRoom reportCount (now (out .entry)) (bufferAfter (surveyOf (headerBy (handed (now (header .entry)))) (now (storeys .entry)) (now (members .entry))) (now (sheet .entry))) (now (sheet .entry)) ⌝ }
+    ensures { λ r. ⌜ r ≡ given reportCount (reportReturned (surveyOf (headerHanded (now (header .entry))) (now (storeys .entry)) (now (members .entry))) (length (now (sheet .entry)))) (now (out .entry)) ⌝ }
+    ensures { λ _. ⌜ now (out .exit) ≡ outAfter reportCount (reportReturned (surveyOf (headerHanded (now (header .entry))) (now (storeys .entry)) (now (members .entry))) (length (now (sheet .entry)))) (now (out .entry)) ⌝ }
+    ensures { λ _. ⌜ now (sheet .exit) ≡ ifRoom reportCount (now (out .entry)) (bufferAfter (surveyOf (headerHanded (now (header .entry))) (now (storeys .entry)) (now (members .entry))) (now (sheet .entry))) (now (sheet .entry)) ⌝ }
 {
     if out.len() < REPORT_COUNT {
         return SHORT;

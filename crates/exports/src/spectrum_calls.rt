@@ -5,11 +5,11 @@ ghost use Rattle.hazard.specs.Spectrum.{spectrumReturned};
 ghost use Rattle.exports.specs.Calls.{given, outAfter};
 ghost use Rattle.exports.specs.SpectrumCalls.{siteCount, spectrumCount};
 use crate::SHORT;
+use answers::site::put_site;
+use answers::site::put_spectrum;
 use hazard::site::Motion;
 use hazard::site::site_coefficients;
 use hazard::spectrum::spectrum;
-use words::site_answers::put_site;
-use words::site_answers::put_spectrum;
 
 const SITE_COUNT: usize = 4;
 

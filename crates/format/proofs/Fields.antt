@@ -19,10 +19,13 @@ use Rattle.format.specs.Lines.{isForce, fieldAt, isWritten, valueAt, fau
 use Rattle.format.specs.declared.cursor.Cursor.{Cursor}
 use Rattle.format.specs.declared.cursor.Field.{Field}
 use Rattle.format.specs.declared.lines.Fields.{Fields}
-use Rattle.records.specs.declared.Tag.{Tag}
-use Rattle.records.specs.declared.Tag.the-variants.{B, S, M}
-use Rattle.records.proofs.Firsts.{first-none, first-next, first-kept, first-zero}
+use Rattle.records.specs.declared.Kind.{Kind}
+use Rattle.records.specs.declared.Kind.the-variants.{M}
+use Rattle.records.proofs.Firsts.{first-none, first-next, first-kept, first-clear, first-zero}
+use Rattle.records.proofs.Validity.{clear}
 use Rattle.records.proofs.Below.{agree, every-none, every-next, every-at}
+use Rattle.records.proofs.Allowing.{three-fields}
+use Rattle.records.proofs.Lines.{InRanges}
 
 number-step : (o : Option ℕ) (next : ℕ) → numberOf (fieldStep o next) ≡ Option·getD o 0
 number-step (some v) next = refl
@@ -41,15 +44,15 @@ next-step (some v) next = refl
 next-step none next = refl
 
 -- the field at place c, the j-th of the line
-step-is : (t : Tag) (s : List ℕ) (at c j : ℕ) (f : Field) → c ≡ at + 1 + 8 * j → f ≡ fieldStep (fieldOf (isForce t j) (take 8 (drop c s))) (c + 8) → f ≡ fieldStep (fieldAt t s at j) (c + 8)
+step-is : (t : Kind) (s : List ℕ) (at c j : ℕ) (f : Field) → c ≡ at + 1 + 8 * j → f ≡ fieldStep (fieldOf (isForce t j) (take 8 (drop c s))) (c + 8) → f ≡ fieldStep (fieldAt t s at j) (c + 8)
 unfolding fieldAt
 step-is t s at c j f p e = rw (← p) e
 
-abbrev pub writtenAt : Tag → List ℕ → ℕ → ℕ → Bool
+abbrev pub writtenAt : Kind → List ℕ → ℕ → ℕ → Bool
 writtenAt t s at j = isWritten (fieldAt t s at j)
 
 -- ---- the numbers of the fields
-pub record Sofar (t : Tag) (s : List ℕ) (at n : ℕ) (values : List ℕ) (written : Bool) (c j : ℕ) : Type 0 where
+pub record Sofar (t : Kind) (s : List ℕ) (at n : ℕ) (values : List ℕ) (written : Bool) (c j : ℕ) : Type 0 where
   pub count : n ≡ fields t
   pub most : n ≤ fields M
   pub turn : j ≤ n
@@ -58,7 +61,7 @@ pub record Sofar (t : Tag) (s : List ℕ) (at n : ℕ) (values : List ℕ) (writ
   pub all-written : written ≡ everyBelow (writtenAt t s at) j
   pub held : (k : ℕ) → k < j → getD values k 0 ≡ valueAt t s at k
 
-module _ (t : Tag) (s : List ℕ) (at : ℕ) where
+module _ (t : Kind) (s : List ℕ) (at : ℕ) where
   pub at-first : (n : ℕ) (values : List ℕ) → n ≡ fields t → n ≤ fields M → length values ≡ fields M → Sofar t s at n values true (at + 1) 0
   at-first n values e h g =
       record {
@@ -93,14 +96,14 @@ module _ (t : Tag) (s : List ℕ) (at : ℕ) where
         }
 
 -- ---- the first refusal among the fields
-pub record Looked (t : Tag) (s : List ℕ) (at n c j : ℕ) : Type 0 where
+pub record Looked (t : Kind) (s : List ℕ) (at n c j : ℕ) : Type 0 where
   pub count : n ≡ fields t
   pub most : n ≤ fields M
   pub turn : j ≤ n
   pub place : c ≡ at + 1 + 8 * j
   pub clear : first 0 (λ r. r) (fieldFault t s at) j ≡ 0
 
-module _ (t : Tag) (s : List ℕ) (at : ℕ) where
+module _ (t : Kind) (s : List ℕ) (at : ℕ) where
   pub looks-first : (n : ℕ) → n ≡ fields t → n ≤ fields M → Looked t s at n (at + 1) 0
   looks-first n e h =
       record { count = e; most = h; turn = omega arith; place = omega arith; clear = first-none 0 (λ r. r) (fieldFault t s at) }
@@ -131,19 +134,23 @@ no-fault : (o : Option ℕ) (a : Allowed) → isWritten o ≡ true → allows a 
 no-fault (some v) a w e = rw e
 no-fault none a w e = let z : _≡_ {A = ℕ} 0 1 = cc in absurd (omega arith)
 
-pub three-fields : (tag : Tag) → 2 < fields tag
-three-fields B = omega arith
-three-fields S = omega arith
-three-fields M = omega arith
-
-pub all-clear : (t : Tag) (s : List ℕ) (at : ℕ) (vs : List ℕ) → ((j : ℕ) → j < fields t → getD vs j 0 ≡ valueAt t s at j) → everyBelow (inRange t vs) (fields t) ≡ true → everyBelow (writtenAt t s at) (fields t) ≡ true → fieldsFault t s at ≡ 0
+pub all-clear : (t : Kind) (s : List ℕ) (at : ℕ) (vs : List ℕ) → ((j : ℕ) → j < fields t → getD vs j 0 ≡ valueAt t s at j) → everyBelow (inRange t vs) (fields t) ≡ true → everyBelow (writtenAt t s at) (fields t) ≡ true → fieldsFault t s at ≡ 0
 unfolding fieldFault
 all-clear t s at vs held r w =
     first-zero 0 (λ r. r) (fieldFault t s at) (fields t) refl
     (λ j h. no-fault (fieldAt t s at j) _ (every-at (writtenAt t s at) (fields t) j w h) (rw (← held 2 (three-fields t), ← held j h) (every-at (inRange t vs) (fields t) j r h)))
 
+-- and no refusal: all in their ranges
+allowed : (o : Option ℕ) (a : Allowed) → faultIn o a ≡ 0 → allows a (Option·getD o 0) ≡ true
+allowed (some v) a e = clear (allows a v) 0 3 e (omega arith) .0
+allowed none a e = let z : ⊥ = omega (arith, e) in absurd z
+
+pub in-ranges : (t : Kind) (s : List ℕ) (at : ℕ) → fieldsFault t s at ≡ 0 → InRanges t (valueAt t s at)
+unfolding fieldFault
+in-ranges t s at e j h = allowed (fieldAt t s at j) _ (first-clear 0 (λ r. r) (fieldFault t s at) (fields t) j e h)
+
 -- ---- the fields of any bytes
-module _ (t : Tag) (s : List ℕ) (at : ℕ) where
+module _ (t : Kind) (s : List ℕ) (at : ℕ) where
   pub cut-short : (n : ℕ) → n ≡ fields t → length s < 1 + 8 * n → false ≡ holdsFields t s at
   cut-short n e h = sym (lt-leb (at + 1 + 8 * fields t) (length s) (omega arith))
 

@@ -1,25 +1,50 @@
 -- The record that a line holds, from the numbers read.
-use Prim.Native.Nat.{ℕ, zero, suc, _+_, _-_, _<_}
+use Prim.Native.Nat.{ℕ, zero, suc, _+_, _≤_, _<_}
 use native.Mathlib.Omega.{arith}
-use native.Mathlib.Nat.{not-suc-le-zero, le-of-suc-le-suc}
-use mathlib.Core.List.{List, [], _∷_}
+use mathlib.Core.Bool.{Bool, true, false}
+use mathlib.Core.List.{List}
 use mathlib.Core.Path.{_≡_, refl, ap, _∙_}
 use lib.ListN.{length, getD}
-use Rattle.format.specs.Lines.{valueAt, headerAt, storeyAt, memberAt}
-use Rattle.records.specs.Records.{fields, headerBy, storeyBy, memberBy}
+use Rattle.format.specs.Lines.{valueAt, headerAt, storeyAt, caseAt, casesAt, memberAt}
+use Rattle.records.specs.Records.{fields, inCases, storeyKind, memberKind, headerBy, storeyBy, caseBy, oldCases, memberBy}
 use Rattle.records.specs.declared.Header.{Header}
 use Rattle.records.specs.declared.Storey.{Storey}
+use Rattle.records.specs.declared.LoadCase.{LoadCase}
 use Rattle.records.specs.declared.Member.{Member}
-use Rattle.records.specs.declared.Tag.the-variants.{B, S, M}
+use Rattle.records.specs.declared.Kind.{Kind}
+use Rattle.records.specs.declared.Kind.the-variants.{B, M, M4, D}
+use Rattle.records.proofs.Lines.{numbers}
 
-pub header-same : (f g : ℕ → ℕ) → ((j : ℕ) → j < 6 → f j ≡ g j) → headerBy f ≡ headerBy g
-header-same f g h = rw (h 0 (omega arith), h 1 (omega arith), h 2 (omega arith), h 3 (omega arith), h 4 (omega arith), h 5 (omega arith))
+-- ---- records of the same numbers
+pub header-same : (form : ℕ) (f g : ℕ → ℕ) → ((j : ℕ) → j < fields B → f j ≡ g j) → headerBy form f ≡ headerBy form g
+header-same form f g h = rw (h 0 (omega arith), h 1 (omega arith), h 2 (omega arith), h 3 (omega arith), h 4 (omega arith), h 5 (omega arith))
 
-pub storey-same : (f g : ℕ → ℕ) → ((j : ℕ) → j < 3 → f j ≡ g j) → storeyBy f ≡ storeyBy g
-storey-same f g h = rw (h 0 (omega arith), h 1 (omega arith), h 2 (omega arith))
+storey-by : (t : Bool) (form : ℕ) (f g : ℕ → ℕ) → inCases form ≡ t → ((j : ℕ) → j < fields (storeyKind form) → f j ≡ g j) → storeyBy form f ≡ storeyBy form g
+storey-by true form f g e h =
+    let k = rw e at h in
+    rw (e, k 0 (omega arith), k 1 (omega arith), k 2 (omega arith), k 3 (omega arith), k 4 (omega arith), k 5 (omega arith))
+storey-by false form f g e h = let k = rw e at h in rw (e, k 0 (omega arith), k 1 (omega arith), k 2 (omega arith))
 
-pub member-same : (f g : ℕ → ℕ) → ((j : ℕ) → j < fields M → f j ≡ g j) → memberBy f ≡ memberBy g
-member-same f g h =
+pub storey-same : (form : ℕ) (f g : ℕ → ℕ) → ((j : ℕ) → j < fields (storeyKind form) → f j ≡ g j) → storeyBy form f ≡ storeyBy form g
+storey-same form f g h = storey-by (inCases form) form f g refl h
+
+-- a load case has eight numbers
+pub case-same : (f g : ℕ → ℕ) (k : ℕ) → ((j : ℕ) → j < 8 → f (k + j) ≡ g (k + j)) → caseBy f k ≡ caseBy g k
+case-same f g k h =
+    let z : k + 0 ≡ k = omega arith in
+    rw (
+      rw z at (h 0 (omega arith)),
+      h 1 (omega arith),
+      h 2 (omega arith),
+      h 3 (omega arith),
+      h 4 (omega arith),
+      h 5 (omega arith),
+      h 6 (omega arith),
+      h 7 (omega arith),
+    )
+
+pub member-same : (f g : ℕ → ℕ) (cases : List LoadCase) → ((j : ℕ) → j < fields M4 → f j ≡ g j) → memberBy f cases ≡ memberBy g cases
+member-same f g cases h =
     rw (
       h 0 (omega arith),
       h 1 (omega arith),
@@ -39,42 +64,43 @@ member-same f g h =
       h 15 (omega arith),
       h 16 (omega arith),
       h 17 (omega arith),
-      h 18 (omega arith),
-      h 19 (omega arith),
-      h 20 (omega arith),
-      h 21 (omega arith),
-      h 22 (omega arith),
-      h 23 (omega arith),
-      h 24 (omega arith),
-      h 25 (omega arith),
     )
 
+-- the M lines of both forms have them
+first-fields : (t : Bool) (form : ℕ) → inCases form ≡ t → fields M4 ≤ fields (memberKind form)
+first-fields true form e = rw e (omega arith)
+first-fields false form e = rw e (omega arith)
+
+-- ---- the records that lines hold
 module _ (s : List ℕ) (at : ℕ) (vs : List ℕ) where
-  pub header-held : (h : Header) → ((j : ℕ) → j < 6 → getD vs j 0 ≡ valueAt B s at j) → h ≡ headerBy (λ (j : ℕ). getD vs j 0) → h ≡ headerAt s at
+  -- vs are the numbers of a line's fields
+  abbrev Values : Kind → Type 0
+  Values kind = (j : ℕ) → j < fields kind → getD vs j 0 ≡ valueAt kind s at j
+
+  pub header-held : (form : ℕ) (h : Header) → Values B → h ≡ headerBy form (λ (j : ℕ). getD vs j 0) → h ≡ headerAt form s at
   unfolding headerAt
-  header-held h o e = e ∙ header-same (λ (j : ℕ). getD vs j 0) (valueAt B s at) o
+  header-held form h o e = e ∙ header-same form (λ (j : ℕ). getD vs j 0) (valueAt B s at) o
 
-  pub storey-held : (h : Storey) → ((j : ℕ) → j < 3 → getD vs j 0 ≡ valueAt S s at j) → h ≡ storeyBy (λ (j : ℕ). getD vs j 0) → h ≡ storeyAt s at
+  pub storey-held : (form : ℕ) (h : Storey) → Values (storeyKind form) → h ≡ storeyBy form (λ (j : ℕ). getD vs j 0) → h ≡ storeyAt form s at
   unfolding storeyAt
-  storey-held h o e = e ∙ storey-same (λ (j : ℕ). getD vs j 0) (valueAt S s at) o
+  storey-held form h o e = e ∙ storey-same form (λ (j : ℕ). getD vs j 0) (valueAt (storeyKind form) s at) o
 
-  pub member-held : (h : Member) → ((j : ℕ) → j < fields M → getD vs j 0 ≡ valueAt M s at j) → h ≡ memberBy (λ (j : ℕ). getD vs j 0) → h ≡ memberAt s at
+  pub case-held : (h : LoadCase) → Values D → h ≡ caseBy (λ (j : ℕ). getD vs j 0) 1 → h ≡ caseAt s at
+  unfolding caseAt
+  case-held h o e = e ∙ case-same (λ (j : ℕ). getD vs j 0) (valueAt D s at) 1 (λ j l. o (1 + j) (omega arith))
+
+  -- an M line of the old form has its case
+  pub old-cases-held : (form : ℕ) → inCases form ≡ false → Values (memberKind form) → oldCases (λ (j : ℕ). getD vs j 0) ≡ casesAt form s at
+  old-cases-held form q o =
+      let k = rw q at o in
+      rw (q, case-same (λ (j : ℕ). getD vs j 0) (valueAt M s at) 18 (λ j l. k (18 + j) (omega arith)))
+
+  pub member-held : (form : ℕ) (h : Member) (cases : List LoadCase) → Values (memberKind form) → cases ≡ casesAt form s at → h ≡ memberBy (λ (j : ℕ). getD vs j 0) cases → h ≡ memberAt form s at
   unfolding memberAt
-  member-held h o e = e ∙ member-same (λ (j : ℕ). getD vs j 0) (valueAt M s at) o
+  member-held form h cases o q e =
+      e ∙ rw q (member-same (λ (j : ℕ). getD vs j 0) (valueAt (memberKind form) s at) (casesAt form s at) (λ j l. o j (omega (arith, first-fields (inCases form) form refl))))
 
--- f j, f (j + 1), ..: n numbers
-abbrev pub numbers : (ℕ → ℕ) → ℕ → ℕ → List ℕ
-numbers f j zero = []
-numbers f j (suc n) = f j ∷ numbers f (suc j) n
-
-at-numbers : (f : ℕ → ℕ) (n k j : ℕ) → j < n → getD (numbers f k n) j 0 ≡ f (k + j)
-at-numbers f zero k j h = absurd (not-suc-le-zero h)
-at-numbers f (suc n) k zero h = let e : k + 0 ≡ k = omega arith in rw e
-at-numbers f (suc n) k (suc j) h = let e : k + suc j ≡ suc k + j = omega arith in rw e (at-numbers f n (suc k) j (le-of-suc-le-suc h))
-
+-- ---- how many numbers there are
 pub length-numbers : (f : ℕ → ℕ) (k n : ℕ) → length (numbers f k n) ≡ n
 length-numbers f k zero = refl
 length-numbers f k (suc n) = ap suc (length-numbers f (suc k) n)
-
-pub from-first : (f : ℕ → ℕ) (n j : ℕ) → j < n → getD (numbers f 0 n) j 0 ≡ f j
-from-first f n j h = let e : 0 + j ≡ j = omega arith in at-numbers f n 0 j h ∙ ap f e

@@ -5,6 +5,7 @@ pub mod Scan
 pub mod Fields
 pub mod Shape
 pub mod Held
+pub mod Remade
 pub mod LineText
 pub mod Typed
 pub mod Framed

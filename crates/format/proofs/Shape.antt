@@ -2,18 +2,18 @@
 use Prim.Native.Nat.{ℕ, _+_, _*_, _-_, _≤_, _<_}
 use native.Mathlib.Omega.{arith}
 use native.Mathlib.Numerals.{add-one}
-use mathlib.Core.Bool.{Bool, true, false, and-false}
+use mathlib.Core.Bool.{true, false, and-false}
 use mathlib.Core.List.{List}
 use mathlib.Core.Path.{_≡_, refl, ap, sym, _∙_}
 use lib.Dec.{ltb, eqb}
 use lib.ListN.{length, drop, getD, length-drop, drop-of-length-le}
 use lib.Seq.{drop-cons, getD-drop}
-use borrow.Author.Tests.{eq-eqb, ne-eqb, lt-ltb, le-ltb, ltb-true, ltb-false}
+use borrow.Author.Tests.{eqb-true, eq-eqb, ne-eqb, lt-ltb, le-ltb, ltb-true, ltb-false}
 use Rattle.records.specs.Records.{fields}
 use Rattle.format.specs.Lines.{tagByte, lineEnd, shaped, framed}
-use Rattle.records.specs.declared.Tag.{Tag}
-use Rattle.records.specs.declared.Tag.the-variants.{B, S, M}
-use Rattle.records.proofs.Below.{agree, and-right}
+use Rattle.records.specs.declared.Kind.{Kind}
+use Rattle.records.specs.declared.Kind.the-variants.{B, S, M, S4, M4, D}
+use Rattle.records.proofs.Below.{agree, and-left, and-right}
 
 module _ (l : List ℕ) (i : ℕ) where
   pub end-here : i < length l → getD l i 0 ≡ 10 → lineEnd (drop i l) ≡ 0
@@ -29,24 +29,34 @@ module _ (l : List ℕ) (i : ℕ) where
   end-none h = rw (drop-of-length-le l h)
 
 -- a line of the expected shape lies within the file
-pub shaped-fits : (t : Tag) (s : List ℕ) (at : ℕ) → shaped t (drop at s) ≡ true → at + 2 + 8 * fields t ≤ length s
+pub shaped-fits : (t : Kind) (s : List ℕ) (at : ℕ) → shaped t (drop at s) ≡ true → at + 2 + 8 * fields t ≤ length s
 unfolding shaped
 shaped-fits t s at e =
     let a = and-right (eqb (getD (drop at s) 0 0) (tagByte t)) _ e in
     let b = ltb-true (8 * fields t + 1) (length (drop at s)) (and-right (eqb (lineEnd (drop at s)) (8 * fields t + 1)) _ a) in
     omega (arith, length-drop at s)
 
+-- and ends after its fields
+pub shaped-end : (t : Kind) (s : List ℕ) (at : ℕ) → shaped t (drop at s) ≡ true → lineEnd (drop at s) ≡ 8 * fields t + 1
+unfolding shaped
+shaped-end t s at e =
+    let a = and-right (eqb (getD (drop at s) 0 0) (tagByte t)) _ e in
+    eqb-true (lineEnd (drop at s)) (8 * fields t + 1) (and-left (eqb (lineEnd (drop at s)) (8 * fields t + 1)) _ a)
+
 shift-test : (a b k : ℕ) → a ≤ b → ltb (a + k) b ≡ ltb k (b - a)
 shift-test a b k h =
     agree _ _ (λ e. lt-ltb k (b - a) (omega (arith, ltb-true (a + k) b e))) (λ e. le-ltb k (b - a) (omega (arith, ltb-false (a + k) b e)))
 
 -- no tag is 0, which stands past the end
-tag-some : (t : Tag) → eqb 0 (tagByte t) ≡ false
+tag-some : (t : Kind) → eqb 0 (tagByte t) ≡ false
 tag-some B = refl
 tag-some S = refl
 tag-some M = refl
+tag-some S4 = refl
+tag-some M4 = refl
+tag-some D = refl
 
-module _ (l : List ℕ) (at : ℕ) (t : Tag) where
+module _ (l : List ℕ) (at : ℕ) (t : Kind) where
   head : getD (drop at l) 0 0 ≡ getD l at 0
   head = let e : at + 0 ≡ at = omega arith in getD-drop at l 0 0 ∙ ap (λ (k : ℕ). getD l k 0) e
 

@@ -1,6 +1,6 @@
 -- What the steps of reading a line's fields come to: each case of a cursor's answer, and the fields of a line that the bytes hold.
 use Rattle.records.specs.Notation.{ℕ, _+_, _-_, _≤_, _<_, Bool, true, false, not, _&&_, _||_, List, Option, some, none, _≡_, leb, ltb, eqb, getD, pick, everyBelow}
-use Rattle.records.specs.declared.Tag.{Tag}
+use Rattle.records.specs.declared.Kind.{Kind}
 use Rattle.records.specs.Records.{Allowed, allows, zeroForce, fields}
 use Rattle.format.specs.Lines.{fieldAt, isWritten, valueAt}
 use Rattle.format.specs.declared.cursor.Cursor.{Cursor}
@@ -31,9 +31,9 @@ faultOf (Number v c) a = pick (allows a v) 0 3
 faultOf (Refused n c) a = n
 
 -- the numbers that a line's fields hold, and whether all are written as they must be
-pub record FieldsHeld (tag : Tag) (s : List ℕ) (at : ℕ) (r : Fields) : Type 0 where
-  pub written : r .written ≡ everyBelow (λ j. isWritten (fieldAt tag s at j)) (fields tag)
-  pub values : (j : ℕ) → j < fields tag → getD (r .values) j 0 ≡ valueAt tag s at j
+pub record FieldsHeld (kind : Kind) (s : List ℕ) (at : ℕ) (r : Fields) : Type 0 where
+  pub written : r .written ≡ everyBelow (λ j. isWritten (fieldAt kind s at j)) (fields kind)
+  pub values : (j : ℕ) → j < fields kind → getD (r .values) j 0 ≡ valueAt kind s at j
 
 -- the numbers that have a spelling in a field: of a force, with six digits at most after a minus; else with seven digits at most
 abbrev pub Spellable : Bool → ℕ → Type 0

@@ -72,12 +72,11 @@ fn minus_at(s: &[u8], at: usize) -> Field
     Field::Refused(MISWRITTEN, Cursor { at: at + 8 })
 }
 
-// N_D or N_K, counted from -20,000,000.
-fn force_at(s: &[u8], at: usize) -> Field
-    requires { ⌜ at + 8 ≤ length (now s) ⌝ }
+// N_D or N_K, counted from -20,000,000, of which f is the field without a minus.
+fn force_of(f: Field, s: &[u8], at: usize) -> Field
+    requires { ⌜ (at + 8 ≤ length (now s)) × (f ≡ fieldStep (fieldOf false (take 8 (drop at (now s)))) (at + 8)) ⌝ }
     ensures { λ r. ⌜ r ≡ fieldStep (fieldOf true (take 8 (drop at (now (s .entry))))) (at + 8) ⌝ }
 {
-    let f = plain_at(s, at);
     match f {
         Field::Number(n, _) => Field::Number(ZERO_FORCE + n, Cursor { at: at + 8 }),
         Field::Refused(_, _) => minus_at(s, at),
@@ -85,16 +84,17 @@ fn force_at(s: &[u8], at: usize) -> Field
 }
 
 impl Cursor {
-    // The field at the cursor.
+    // The field at the cursor. It calls `plain_at` in one place, so that the compiler lays it out here.
     pub(crate) fn field(self, s: &[u8], force: bool) -> Field
         requires { ⌜ self .at + 8 ≤ length (now s) ⌝ }
         ensures { λ r. ⌜ r ≡ fieldStep (fieldOf force (take 8 (drop (self .at) (now (s .entry))))) (self .at + 8) ⌝ }
     {
         let at = self.at;
+        let f = plain_at(s, at);
         if force {
-            return force_at(s, at);
+            return force_of(f, s, at);
         }
-        plain_at(s, at)
+        f
     }
 }
 

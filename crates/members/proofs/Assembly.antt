@@ -3,11 +3,15 @@ use Prim.Native.Nat.{ℕ, _≤_}
 use native.Mathlib.Omega.{arith}
 use mathlib.Core.Bool.{Bool, true, false, _||_}
 use mathlib.Core.Path.{_≡_, refl}
-use lib.Dec.{eqb}
+use lib.Dec.{eqb, ltb}
 use borrow.Author.Tests.{eqb-true}
+use Rattle.records.specs.declared.Member.{Member}
 use Rattle.records.specs.declared.MemberCase.{MemberCase}
+use Rattle.records.specs.Records.{knownForm, memberCaseFault, memberFault}
 use Rattle.members.specs.declared.class.Class.{Class}
 use Rattle.members.specs.declared.finding.Finding.{Finding}
+use Rattle.members.specs.declared.finding.Met.{Met}
+use Rattle.members.specs.declared.finding.CaseAnswer.the-variants.{Judged as JudgedCase}
 use Rattle.members.specs.declared.limits.Ratios.{Ratios}
 use Rattle.members.specs.declared.tables.LimitSet.{LimitSet}
 use Rattle.members.specs.declared.units.Ratio.{Ratio}
@@ -16,14 +20,24 @@ use Rattle.members.specs.Class.{classOf}
 use Rattle.members.specs.Tables.{published, publishedShare, places, moments, rotations}
 use Rattle.members.specs.Limits.{mLimitAt, rotationLimitAt}
 use Rattle.members.specs.Sizes.{SizedShare, SizedSet}
-use Rattle.members.specs.Finding.{axialRatioD, momentRatio, mLimit, rotationLimit, mDropped, exceeds, isOver, findingBy, knowledge}
+use Rattle.members.specs.Finding.{axialRatioD, momentRatio, mLimit, rotationLimit, mDropped, overM, isOver, findingBy, knowledge, caseAnswerBy, judgedBy, answerBy}
 use Rattle.members.specs.Assembly.{ratios}
 use Rattle.members.proofs.Rounding.{microradians}
 
 module _ (s : LimitSet) (k : ℕ) (met : Bool) (m : MemberCase) where
-  pub assembled : {class : Class} {at : Ratios} {ratio limit nd : Ratio} {rotation allowed : Microradians} {dropped over : Bool} → class ≡ classOf k m → at ≡ ratios m → ratio ≡ momentRatio k m → rotation ≡ microradians (m .case .rotation) → limit ≡ mLimitAt s class (m .zone) (m .strengthened) (at .n .0) (at .v .0) (at .rho .0) → allowed ≡ rotationLimitAt s class (m .zone) (m .strengthened) (m .factor) (at .n .0) (at .v .0) (at .rho .0) → dropped ≡ mDropped k met m → over ≡ exceeds dropped (ratio .0) (limit .0) (rotation .0) (allowed .0) → nd ≡ axialRatioD m → _≡_ {A = Finding} (record { class = class; m = ratio; «m_limit» = limit; rotation = rotation; «rotation_limit» = allowed; over = over; nd = nd }) (findingBy s k met m)
+  pub assembled : {class : Class} {at : Ratios} {ratio limit nd : Ratio} {rotation allowed : Microradians} {dropped over byM : Bool} → class ≡ classOf k m → at ≡ ratios m → ratio ≡ momentRatio k m → rotation ≡ microradians (m .case .rotation) → limit ≡ mLimitAt s class (m .zone) (m .strengthened) (at .n .0) (at .v .0) (at .rho .0) → allowed ≡ rotationLimitAt s class (m .zone) (m .strengthened) (m .factor) (at .n .0) (at .v .0) (at .rho .0) → dropped ≡ mDropped k met m → byM ≡ overM dropped (ratio .0) (limit .0) → over ≡ (byM || ltb (allowed .0) (rotation .0)) → nd ≡ axialRatioD m → _≡_ {A = Finding} (record { class = class; m = ratio; «m_limit» = limit; rotation = rotation; «rotation_limit» = allowed; over = over; nd = nd; «m_dropped» = dropped; «over_m» = byM; «over_rotation» = ltb (allowed .0) (rotation .0) }) (findingBy s k met m)
   unfolding findingBy isOver mLimit rotationLimit ratios
-  assembled e1 e2 e3 e4 e5 e6 e7 e8 e9 = rw (e9, e8, e7, e6, e5, e4, e3, e2, e1)
+  assembled e1 e2 e3 e4 e5 e6 e7 e8 e9 e10 = rw (e10, e9, e8, e7, e6, e5, e4, e3, e2, e1)
+
+  -- the answer on a good member in one load case
+  pub case-answer-good : knowledge k ≡ true → memberCaseFault m ≡ 0 → caseAnswerBy s k met m ≡ JudgedCase (findingBy s k met m)
+  unfolding caseAnswerBy
+  case-answer-good e f = simp (e, f)
+
+-- the answer on a good member of a form
+pub answer-good : (s : LimitSet) (k form : ℕ) (met : Met) (m : Member) → knowledge k ≡ true → knownForm form ≡ true → memberFault form m ≡ 0 → answerBy s k form met m ≡ judgedBy s k form met m
+unfolding answerBy
+answer-good s k form met m e g f = simp (e, g, f)
 
 -- k's two levels are within what the ratios compute with
 pub level-sized : (k : ℕ) → knowledge k ≡ true → (1 ≤ k) × (k ≤ 100)

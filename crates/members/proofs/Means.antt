@@ -1,6 +1,6 @@
 -- A value between rows is a mean of their limits: it is within what bounds them, whatever the table. So no product of the code wraps.
 use Prim.Native.Nat.{ℕ, _+_, _-_, _*_, _≤_, _<_}
-use native.Mathlib.Nat.{mul-le-mul-right, mul-le-mul-left, mul-pos}
+use native.Mathlib.Nat.{le-trans, mul-le-mul-right, mul-le-mul-left, mul-pos}
 use native.Mathlib.Decide.{decLe}
 use native.Mathlib.Omega.{arith}
 use mathlib.Core.List.{List, [], _∷_}
@@ -15,9 +15,9 @@ use Rattle.members.specs.declared.limits.Fraction.{Fraction}
 use Rattle.members.specs.declared.tables.Two.{Two}
 use Rattle.members.specs.declared.tables.Places.{Places}
 use Rattle.members.specs.declared.tables.Table.{Table}
-use Rattle.members.specs.Tables.{two}
+use Rattle.members.specs.Tables.{Four, two}
 use Rattle.members.specs.Limits.{interp, rowLimit, segment, blend, gap, clamp, per, columnA, columnB, columnC, wallRows, wallB, exact, quarters}
-use Rattle.members.specs.Sizes.{Places2, Most2, SizedPlaces, SizedTable, Mean}
+use Rattle.members.specs.Sizes.{Places2, Most2, Most4, SizedPlaces, SizedTable, Mean}
 use Rattle.members.proofs.Arithmetic.{product}
 use Rattle.members.proofs.Interpolation.{up-to, inside, past, alone}
 
@@ -62,6 +62,27 @@ unfolding blend
 blend-within {most} at y x a m =
     let e : gap at ≡ (at .r2 - clamp at x) + (clamp at x - at .r1) = omega (arith, a .first) in
     rw e (omega (arith, mul-le-mul-right (at .r2 - clamp at x) (m .r1), mul-le-mul-right (clamp at x - at .r1) (m .r2)))
+
+-- limits of at most so much are of at most more
+raised2 : {most more : ℕ} {t : Two} → most ≤ more → Most2 most t → Most2 more t
+raised2 h m = record { r1 = le-trans (m .r1) h; r2 = le-trans (m .r2) h }
+
+raised4 : {most more : ℕ} {f : Four} → most ≤ more → Most4 most f → Most4 more f
+raised4 h m = record { r1 = le-trans (m .r1) h; r2 = le-trans (m .r2) h; r3 = le-trans (m .r3) h; r4 = le-trans (m .r4) h }
+
+pub raised : {most more : ℕ} {t : Table} → most ≤ more → SizedTable most t → SizedTable more t
+raised h s =
+    record {
+      a = raised4 h (s .a);
+      b1 = raised4 h (s .b1);
+      b2 = raised4 h (s .b2);
+      c = raised2 h (s .c);
+      zone1 = raised2 h (s .zone1);
+      zone2 = raised2 h (s .zone2);
+      plain1 = raised2 h (s .plain1);
+      plain2 = raised2 h (s .plain2);
+      wall = raised2 h (s .wall);
+    }
 
 -- one direction, and two
 one-way : {most : ℕ} {f : Fraction} → Within most f → Mean most f

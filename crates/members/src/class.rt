@@ -46,13 +46,7 @@ fn is_detailed(m: MemberCase) -> bool
     requires { ⌜ Valid m ⌝ }
     ensures { λ r. ⌜ r ≡ detailed m ⌝ }
 {
-    if 100 < m.spacing {
-        return false;
-    }
-    if m.hooks != 1 {
-        return false;
-    }
-    hoops_hold(m.hoops, m.fyw, m.fcm, m.spacing, m.core)
+    (m.spacing <= 100) & ((m.hooks == 1) & hoops_hold(m.hoops, m.fyw, m.fcm, m.spacing, m.core))
 }
 
 // Shear demand below capacity, not rounded.
@@ -86,10 +80,7 @@ fn wall_class(height: u64, long: u64, k: u64, ve: u64, vr: u64) -> Class
     requires { ⌜ (long ≤ 99_999) × (k ≤ 100) × (ve ≤ 9_999_999) × (vr ≤ 9_999_999) ⌝ }
     ensures { λ r. ⌜ r ≡ wallClass height long k ve vr ⌝ }
 {
-    if height < 2 * long {
-        return Class::WallB;
-    }
-    if shear_below(k, ve, vr) {
+    if (2 * long <= height) & shear_below(k, ve, vr) {
         return Class::WallA;
     }
     Class::WallB

@@ -2,7 +2,7 @@
 ghost use mathlib.Core.Path.{_≡_};
 ghost use mathlib.Core.List.{[], _∷_};
 ghost use Prim.Native.Nat.{_≤_, _<_};
-ghost use Rattle.members.specs.Limits.{interp, rowLimit, segment, clamp, blend, columnA, rowB, columnB, columnC, wallRows, wallA, wallB, exact, cutQuarters, quarters, roundM, roundRotation, mLimitAt, rotationLimitAt};
+ghost use Rattle.members.specs.Limits.{interp, segment, clamp, blend, columnA, rowB, columnB, columnC, wallRows, wallA, wallB, exact, cutQuarters, quarters, roundM, roundRotation, mLimitAt, rotationLimitAt};
 ghost use Rattle.members.specs.Sizes.{Places2, Most2, SizedPlaces, SizedTable, SizedSet, SizedRow, Mean};
 use crate::class::Class;
 use crate::tables::LimitSet;
@@ -32,15 +32,6 @@ pub struct Fraction {
     pub den: u64,
 }
 
-fn row_limit(p: Row) -> Fraction
-    ensures { λ r. ⌜ (r ≡ rowLimit p) × (r .den ≤ 200_000) ⌝ }
-{
-    Fraction {
-        num: p.limit,
-        den: 1,
-    }
-}
-
 // Between two rows.
 fn segment(p: Row, q: Row, x: u64) -> Fraction
     requires { ⌜ (p .at ≤ x) × (x ≤ q .at) × SizedRow p × SizedRow q ⌝ }
@@ -58,12 +49,18 @@ fn over_two(a: Row, b: Row, x: u64) -> Fraction
     ensures { λ r. ⌜ (r ≡ interp a (b ∷ []) x) × (r .den ≤ 200_000) ⌝ }
 {
     if x <= a.at {
-        return row_limit(a);
+        return Fraction {
+            num: a.limit,
+            den: 1,
+        };
     }
     if x <= b.at {
         return segment(a, b, x);
     }
-    row_limit(b)
+    Fraction {
+        num: b.limit,
+        den: 1,
+    }
 }
 
 // Over four rows.
@@ -72,7 +69,10 @@ fn over_four(a: Row, b: Row, c: Row, d: Row, x: u64) -> Fraction
     ensures { λ r. ⌜ (r ≡ interp a (b ∷ c ∷ d ∷ []) x) × (r .den ≤ 200_000) ⌝ }
 {
     if x <= a.at {
-        return row_limit(a);
+        return Fraction {
+            num: a.limit,
+            den: 1,
+        };
     }
     if x <= b.at {
         return segment(a, b, x);
@@ -80,10 +80,7 @@ fn over_four(a: Row, b: Row, c: Row, d: Row, x: u64) -> Fraction
     if x <= c.at {
         return segment(b, c, x);
     }
-    if x <= d.at {
-        return segment(c, d, x);
-    }
-    row_limit(d)
+    over_two(c, d, x)
 }
 
 // x, or the place of the two that is nearer.
@@ -280,29 +277,29 @@ fn round_rotation(f: Fraction, q: u64, factor: u64) -> Microradians
     Microradians::steps(f.num * q * factor, f.den * 4 * 100)
 }
 
-// The limit of m.
-pub(crate) fn m_limit(s: LimitSet, class: Class, zone: u64, strengthened: u64, at: Ratios) -> Ratio
-    requires { ⌜ SizedSet s ⌝ }
-    ensures { λ r. ⌜ r ≡ mLimitAt s class zone strengthened (at .n .0) (at .v .0) (at .rho .0) ⌝ }
-{
-    let f = exact(s.places, s.m, class, zone, at);
-    let q = quarters(class, strengthened);
-    round_m(f, q)
+// The two limits of a member.
+pub(crate) struct Limits {
+    pub m: Ratio,
+    pub rotation: Microradians,
 }
 
-// The limit of the rotation.
-pub(crate) fn rotation_limit(
+pub(crate) fn both_limits(
     s: LimitSet,
     class: Class,
     zone: u64,
     strengthened: u64,
     factor: u64,
     at: Ratios,
-) -> Microradians
+) -> Limits
     requires { ⌜ SizedSet s × (factor ≤ 100) ⌝ }
-    ensures { λ r. ⌜ r ≡ rotationLimitAt s class zone strengthened factor (at .n .0) (at .v .0) (at .rho .0) ⌝ }
+    ensures { λ r. ⌜ r .m ≡ mLimitAt s class zone strengthened (at .n .0) (at .v .0) (at .rho .0) ⌝ }
+    ensures { λ r. ⌜ r .rotation ≡ rotationLimitAt s class zone strengthened factor (at .n .0) (at .v .0) (at .rho .0) ⌝ }
 {
-    let f = exact(s.places, s.rotation, class, zone, at);
+    let f = exact(s.places, s.m, class, zone, at);
+    let g = exact(s.places, s.rotation, class, zone, at);
     let q = quarters(class, strengthened);
-    round_rotation(f, q, factor)
+    Limits {
+        m: round_m(f, q),
+        rotation: round_rotation(g, q, factor),
+    }
 }

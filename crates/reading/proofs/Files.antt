@@ -11,81 +11,70 @@ use lib.ListN.{length, getD, set, length-set}
 use lib.Seq.{getD-set-same, getD-set-other}
 use borrow.Author.Count.{below-more}
 use borrow.Author.Tests.{eq-eqb, ne-eqb, lt-ltb, le-ltb}
-use Rattle.records.specs.Notation.{pick, anyBelow, inOrder}
-use Rattle.records.specs.Records.{storeyFault, repeated}
+use Rattle.records.specs.Notation.{pick, anyBelow}
+use Rattle.records.specs.Records.{storeyKind, repeated}
 use Rattle.format.specs.Lines.{fieldsFault}
-use Rattle.reading.specs.Survey.{lineStart, lineNumber, membersBefore, storey, shape, unheld, storeyLineFault, noFault, or-else, firstFault, membersFault, storeysFault, trailing}
-use Rattle.reading.specs.Checks.{storeyFirst, StoreyLineOf, MembersDue, CheckedOf}
+use Rattle.reading.specs.Survey.{lineStart, lineNumber, membersBefore, storey, shape, unheld, storeyLineFault, firstFault, membersFault, storeysFault, trailing, linesFault}
+use Rattle.reading.specs.Checks.{lineFirst, StoreyLineOf, MembersDue, CheckedOf}
 use Rattle.records.specs.declared.Storey.{Storey}
-use Rattle.records.specs.declared.Tag.the-variants.{S}
 use Rattle.reading.specs.declared.survey.Fault.{Fault}
 use Rattle.reading.specs.declared.survey.StoreyLine.{StoreyLine}
-use Rattle.records.proofs.Firsts.{first-none, first-next, first-kept, in-order-last, pick-clear, pick-both}
-use Rattle.reading.proofs.Storeys.{any-same, by-first}
+use Rattle.records.proofs.Firsts.{pick-clear}
 use Rattle.records.proofs.Validity.{count-most}
+use Rattle.reading.proofs.Lines.{and-then, clear-fields, storey-good}
+use Rattle.reading.proofs.Turns.{else-here, else-later, begins, goes-on, stops}
+use Rattle.reading.proofs.Storeys.{any-same}
 
-pub record Begun (s : List ℕ) (n srows mrows : ℕ) (numbers : List ℕ) (i m : ℕ) : Type 0 where
+pub record Begun (form : ℕ) (s : List ℕ) (n srows mrows : ℕ) (numbers : List ℕ) (i m : ℕ) : Type 0 where
   pub storeys : n ≤ 10
   pub turn : i ≤ n
   pub size : length numbers ≡ 200
-  pub before : m ≡ membersBefore s i
+  pub before : m ≡ membersBefore form s i
   pub most : m ≤ 200 * i
-  pub held : (e : ℕ) → e < i → getD numbers e 0 ≡ storey s e .number
-  pub clear : firstFault (storeysFault s srows mrows) i .number ≡ 0
+  pub held : (e : ℕ) → e < i → getD numbers e 0 ≡ storey form s e .number
+  pub clear : firstFault (storeysFault form s srows mrows) i .number ≡ 0
 
-module _ (s : List ℕ) (n srows mrows : ℕ) where
-  pub begun-first : (numbers : List ℕ) → n ≤ 10 → length numbers ≡ 200 → Begun s n srows mrows numbers 0 0
+module _ (form : ℕ) (s : List ℕ) (n srows mrows : ℕ) where
+  abbrev lines : ℕ → Fault
+  lines = storeysFault form s srows mrows
+
+  pub begun-first : (numbers : List ℕ) → n ≤ 10 → length numbers ≡ 200 → Begun form s n srows mrows numbers 0 0
   unfolding membersBefore
   begun-first numbers h z =
-      record {
-        storeys = h;
-        turn = omega arith;
-        size = z;
-        before = refl;
-        most = omega arith;
-        held = λ e l. absurd (not-suc-le-zero l);
-        clear = ap (λ (g : Fault). g .number) (first-none noFault (λ f. f .number) (storeysFault s srows mrows));
-      }
+      record { storeys = h; turn = omega arith; size = z; before = refl; most = omega arith; held = λ e l. absurd (not-suc-le-zero l); clear = begins lines }
 
-  module _ (numbers : List ℕ) (i m : ℕ) (u : Begun s n srows mrows numbers i m) (h : i < n) (at : ℕ) (l : StoreyLine) (at-is : at ≡ lineStart i m) (o : StoreyLineOf s at (ltb i srows) l) (x f : ℕ)
+  pub begun-small : (numbers : List ℕ) (i m : ℕ) → Begun form s n srows mrows numbers i m → (i ≤ 10) × (m ≤ 2000)
+  begun-small numbers i m u = (omega (arith, u .turn, u .storeys), omega (arith, u .turn, u .storeys, u .most))
+
+  -- a refusal of a storey is the file's
+  file-stops : (r : Fault) → r ≡ firstFault lines n → (r .number ≡ 0 → ⊥) → r ≡ linesFault form s srows mrows n
+  file-stops r e ne = rw (← e) (sym (simp (ne-eqb (r .number) 0 ne)))
+
+  module _ (numbers : List ℕ) (i m : ℕ) (u : Begun form s n srows mrows numbers i m) (h : i < n) (at : ℕ) (l : StoreyLine) (at-is : at ≡ lineStart form i m) (o : StoreyLineOf form s at (ltb i srows) l) (x f : ℕ)
       (xi : x ≡ pick (anyBelow (λ (e : ℕ). eqb (getD numbers e 0) (l .storey .number)) i) 5 0) (fi : f ≡ pick (eqb (l .fault) 0) x (l .fault)) where
-    place-is : at ≡ lineStart i (membersBefore s i)
-    place-is = omega (arith, u .before, at-is)
+    place-is : at ≡ lineStart form i (membersBefore form s i)
+    place-is = at-is ∙ rw (u .before)
 
-    first-is : l .fault ≡ storeyFirst s (lineStart i (membersBefore s i)) (ltb i srows)
+    first-is : l .fault ≡ lineFirst (storeyKind form) s (lineStart form i (membersBefore form s i)) (ltb i srows)
     first-is = rw (← place-is) (o .fault)
 
-    storey-is : l .fault ≡ 0 → l .storey ≡ storey s i
+    storey-is : l .fault ≡ 0 → l .storey ≡ storey form s i
     storey-is z = rw (← place-is) (o .holds z)
 
-    fault-is : f ≡ storeyLineFault s srows i
+    fault-is : f ≡ storeyLineFault form s srows i
     unfolding storeyLineFault
     fault-is =
-        fi
-        ∙ by-first (l .fault) x (repeated (λ e. storey s e .number) i)
-        (λ z. xi ∙ ap (λ (t : Bool). pick t 5 0) (any-same _ _ i (λ e g. rw (u .held e g, storey-is z))))
-        ∙ rw first-is
-        (sym
-        (in-order-last
-        (shape S s (lineStart i (membersBefore s i)) ∷ unheld i srows ∷ fieldsFault S s (lineStart i (membersBefore s i)) ∷ storeyFault (storey s i) ∷ [])
-        (repeated (λ e. storey s e .number) i)))
+        let p = lineStart form i (membersBefore form s i) in
+        and-then (shape (storeyKind form) s p ∷ unheld i srows ∷ fieldsFault (storeyKind form) s p ∷ []) (l .fault) x (repeated (λ e. storey form s e .number) i) f first-is
+        (λ z. xi ∙ ap (λ (t : Bool). pick t 5 0) (any-same _ _ i (λ e g. rw (u .held e g, storey-is z)))) fi
 
-    next-is : firstFault (storeysFault s srows mrows) (i + 1) ≡ storeysFault s srows mrows i
-    next-is = first-next noFault (λ f. f .number) (storeysFault s srows mrows) i (u .clear)
-
-    -- a refusal of storey i is the file's
-    stops : (r : Fault) → storeysFault s srows mrows i ≡ r → (r .number ≡ 0 → ⊥) → r ≡ or-else (firstFault (storeysFault s srows mrows) n) (trailing s n)
-    stops r e ne =
-        let g = next-is ∙ e in
-        let k = first-kept noFault (λ f. f .number) (storeysFault s srows mrows) (i + 1) n (omega arith) (λ z. ne (sym (ap (λ (g : Fault). g .number) g) ∙ z)) ∙ g in
-        sym (rw (k, ne-eqb _ _ ne))
-
-    pub storey-stops : (w : ℕ) → (f ≡ 0 → ⊥) → w ≡ 2 + i + m → CheckedOf s n srows mrows (record { number = f; line = w; members = m })
+    -- the S line is refused
+    pub storey-stops : (w : ℕ) → (f ≡ 0 → ⊥) → w ≡ lineNumber form i m → CheckedOf form s n srows mrows (record { number = f; line = w; members = m })
     unfolding storeysFault
     storey-stops w ne q =
-        let k : w ≡ lineNumber i (membersBefore s i) = omega (arith, u .before, q) in
+        let k : w ≡ lineNumber form i (membersBefore form s i) = q ∙ rw (u .before) in
         record {
-          fault = stops (record { number = f; line = w }) (rw (← fault-is, k) (simp (ne-eqb f 0 ne))) ne;
+          fault = file-stops _ (stops lines i (u .clear) n (record { number = f; line = w }) h (rw (← fault-is, ← k) (else-here w f _ ne)) ne) ne;
           members = λ z. absurd (ne z);
         }
 
@@ -93,28 +82,28 @@ module _ (s : List ℕ) (n srows mrows : ℕ) where
       good : l .fault ≡ 0
       good = pick-clear (l .fault) x (sym fi ∙ z)
 
-      pub is-due : (count : ℕ) → count ≡ l .storey .count → MembersDue s i m count
+      pub is-due : (count : ℕ) → count ≡ l .storey .count → MembersDue form s i m count
       is-due count e =
-          let st = storey-is good in
-          let v = pick-both (inOrder (shape S s (lineStart i (membersBefore s i)) ∷ unheld i srows ∷ fieldsFault S s (lineStart i (membersBefore s i)) ∷ [])) (storeyFault (storey s i))
-          (sym (in-order-last (shape S s (lineStart i (membersBefore s i)) ∷ unheld i srows ∷ fieldsFault S s (lineStart i (membersBefore s i)) ∷ []) (storeyFault (storey s i))) ∙ sym first-is ∙ good) in
-          let q : count ≡ storey s i .count = e ∙ ap (λ (b : Storey). b .count) st in
+          let q : count ≡ storey form s i .count = e ∙ ap (λ (b : Storey). b .count) (storey-is good) in
+          let v = storey-good form s (lineStart form i (membersBefore form s i)) (clear-fields (storeyKind form) s (lineStart form i (membersBefore form s i)) (ltb i srows) (sym first-is ∙ good)) in
           record {
             storeys = omega (arith, u .storeys);
             before = u .before;
             most = omega (arith, u .most, u .storeys);
             held = q;
-            count-most = omega (arith, count-most (storey s i) v);
+            count-most = omega (arith, count-most form (storey form s i) v);
           }
 
-      goes-on : (g : Fault) → g ≡ membersFault s mrows i → storeysFault s srows mrows i ≡ g
+      later-is : (g : Fault) → g ≡ membersFault form s mrows i → lines i ≡ g
       unfolding storeysFault
-      goes-on g e = rw (← fault-is, z) (sym e)
+      later-is g e = rw (← fault-is, ← e) (else-later _ f g z)
 
-      pub members-stop : (g : Fault) → g ≡ membersFault s mrows i → (g .number ≡ 0 → ⊥) → CheckedOf s n srows mrows (record { number = g .number; line = g .line; members = m })
-      members-stop g e ne = record { fault = stops g (goes-on g e) ne; members = λ y. absurd (ne y) }
+      -- an M line or a D line is refused
+      pub members-stop : (g : Fault) → g ≡ membersFault form s mrows i → (g .number ≡ 0 → ⊥) → CheckedOf form s n srows mrows (record { number = g .number; line = g .line; members = m })
+      members-stop g e ne =
+          record { fault = file-stops g (stops lines i (u .clear) n g h (later-is g e) ne) ne; members = λ y. absurd (ne y) }
 
-      pub begun-next : (g : Fault) (count : ℕ) → g ≡ membersFault s mrows i → g .number ≡ 0 → count ≡ l .storey .count → Begun s n srows mrows (set numbers i (l .storey .number)) (i + 1) (m + count)
+      pub begun-next : (g : Fault) (count : ℕ) → g ≡ membersFault form s mrows i → g .number ≡ 0 → count ≡ l .storey .count → Begun form s n srows mrows (set numbers i (l .storey .number)) (i + 1) (m + count)
       unfolding membersBefore
       begun-next g count e y q =
           let d = is-due count q in
@@ -127,26 +116,26 @@ module _ (s : List ℕ) (n srows mrows : ℕ) where
             held =
                 below-more _ i (λ e g. getD-set-other numbers i e (l .storey .number) 0 (λ p. let w : ⊥ = omega arith in absurd w) ∙ u .held e g)
                 (getD-set-same numbers i (l .storey .number) 0 (omega (arith, u .size, u .storeys)) ∙ ap (λ (b : Storey). b .number) (storey-is good));
-            clear = ap (λ (g : Fault). g .number) (next-is ∙ goes-on g e) ∙ y;
+            clear = goes-on lines i (u .clear) (ap (λ (r : Fault). r .number) (later-is g e) ∙ y);
           }
 
-  module _ (numbers : List ℕ) (i m : ℕ) (u : Begun s n srows mrows numbers i m) (h : n ≤ i) (at : ℕ) (at-is : at ≡ lineStart n m) where
+  module _ (numbers : List ℕ) (i m : ℕ) (u : Begun form s n srows mrows numbers i m) (h : n ≤ i) (at : ℕ) (at-is : at ≡ lineStart form n m) where
     all : i ≡ n
     all = omega (arith, u .turn)
 
-    before-all : m ≡ membersBefore s n
+    before-all : m ≡ membersBefore form s n
     before-all = rw (← all) (u .before)
 
-    ends : (r : Fault) → r ≡ trailing s n → r ≡ or-else (firstFault (storeysFault s srows mrows) n) (trailing s n)
+    place-all : at ≡ lineStart form n (membersBefore form s n)
+    place-all = at-is ∙ rw before-all
+
+    ends : (r : Fault) → r ≡ trailing form s n → r ≡ linesFault form s srows mrows n
     ends r e = let k = rw all at (u .clear) in rw (eq-eqb _ _ k) e
 
-    pub more-bytes : (w : ℕ) → at < length s → w ≡ 2 + n + m → CheckedOf s n srows mrows (record { number = 6; line = w; members = m })
+    pub more-bytes : (w : ℕ) → at < length s → w ≡ lineNumber form n m → CheckedOf form s n srows mrows (record { number = 6; line = w; members = m })
     more-bytes w l q =
-        let p : lineStart n (membersBefore s n) < length s = omega (arith, before-all, at-is) in
-        let k : w ≡ lineNumber n (membersBefore s n) = omega (arith, before-all, q) in
-        record { fault = ends _ (rw (lt-ltb _ _ p, k)); members = λ z. before-all }
+        let k : w ≡ lineNumber form n (membersBefore form s n) = q ∙ rw before-all in
+        record { fault = ends _ (rw (← place-all, ← k, lt-ltb _ _ l)); members = λ z. before-all }
 
-    pub no-more : length s ≤ at → CheckedOf s n srows mrows (record { number = 0; line = 0; members = m })
-    no-more l =
-        let p : length s ≤ lineStart n (membersBefore s n) = omega (arith, before-all, at-is) in
-        record { fault = ends _ (rw (le-ltb _ _ p)); members = λ z. before-all }
+    pub no-more : length s ≤ at → CheckedOf form s n srows mrows (record { number = 0; line = 0; members = m })
+    no-more l = record { fault = ends _ (rw (← place-all, le-ltb _ _ l)); members = λ z. before-all }

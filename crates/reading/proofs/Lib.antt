@@ -1,4 +1,7 @@
-pub mod LineChecks
+pub mod Places
+pub mod Lines
+pub mod Turns
+pub mod Cases
 pub mod Storeys
 pub mod Files
 pub mod Numbers

@@ -11,21 +11,21 @@ use lib.ListN.{length, take, drop, getD, length-drop, List·getD-append}
 use lib.Seq.{take-all, take-append-le, drop-append-le, drop-append-add}
 use borrow.Author.Tests.{eqb-true, eq-eqb}
 use Rattle.records.specs.Blank.{noStorey, noMember}
-use Rattle.records.specs.Notation.{pick, inOrder, total, listed}
-use Rattle.records.specs.Records.{headerFault, storeyFault, memberFault, repeated, Survey, surveyOf}
+use Rattle.records.specs.Notation.{pick, first, total, listed}
+use Rattle.records.specs.Records.{Survey, storeyFault, memberFault, repeated}
 use Rattle.checks.specs.Rows.{storeyIn, memberIn, membersOf, countFault, countsFault, rowFault, memberRowsFault, storeyRowsFault, recordsFault}
 use Rattle.checks.specs.Rows as Rows
-use Rattle.records.specs.declared.Header.{Header}
 use Rattle.records.specs.declared.Storey.{Storey}
 use Rattle.records.specs.declared.Member.{Member}
-use Rattle.records.specs.declared.Tag.the-variants.{B, S, M}
 use Rattle.records.proofs.Firsts.{first-zero}
-use Rattle.checks.proofs.Refusals.{None, end, also, one, rest, in-order-clear, in-order-none}
-use Rattle.format.specs.Lines.{fieldsFault, headerAt}
-use Rattle.reading.specs.Survey.{lineStart, membersBefore, storey, memberStart, member, shape, unheld, headerLineFault, storeyLineFault, memberLineFault, surveyFault, firstMembers, accepted, refused, survey}
+use Rattle.checks.proofs.Refusals.{end, also, one, rest, in-order-none}
+use Rattle.format.specs.Lines.{headerAt}
+use Rattle.reading.specs.Survey.{formOf, membersBefore, storey, member, linesFault, surveyFault, firstMembers, surveyIn, accepted, refused, survey}
 use Rattle.reading.specs.Passed.{AcceptedPass}
-use Rattle.reading.proofs.Accepted.{header-line, storey-line, member-line}
-use Rattle.reading.proofs.Numbers.{length-listed, length-members}
+use Rattle.reading.proofs.Lines.{storey-good, member-good}
+use Rattle.reading.proofs.Accepted.{header-checks, storey-checks, member-checks, header-line, lines-clear, storey-line, member-line, member-clean}
+use Rattle.reading.proofs.Numbers.{form-is, length-listed, length-members}
+use Rattle.reading.proofs.Filling.{before-suc, before-rises}
 use Rattle.reading.proofs.Storeys.{any-same}
 
 -- ---- lists by their elements
@@ -52,119 +52,104 @@ unfolding total
 total-more [] st = omega arith
 total-more (x ∷ ss) st = omega (arith, total-more ss st)
 
-pub total-all : (s : List ℕ) (i : ℕ) → total (λ (t : Storey). t .count) (listed (storey s) i) ≡ membersBefore s i
+pub total-all : (form : ℕ) (s : List ℕ) (i : ℕ) → total (λ (t : Storey). t .count) (listed (storey form s) i) ≡ membersBefore form s i
 unfolding listed membersBefore total
-total-all s zero = refl
-total-all s (suc i) = total-more (listed (storey s) i) (storey s i) ∙ rw (total-all s i)
+total-all form s zero = refl
+total-all form s (suc i) = total-more (listed (storey form s) i) (storey form s i) ∙ rw (total-all form s i)
 
 -- ---- the members of a storey among all
-module _ (s : List ℕ) where
-  before-rises : (i n : ℕ) → i ≤ n → membersBefore s i ≤ membersBefore s n
-  unfolding membersBefore
-  before-rises i zero h = let q : i ≡ 0 = omega arith in rw q (omega arith)
-  before-rises i (suc n) h =
-      ⊎-elim (λ (q : i ≡ suc n). rw q (omega arith)) (λ (l : i < suc n). omega (arith, before-rises i n (le-of-suc-le-suc l))) (eq-or-lt-of-le h)
+part : (form : ℕ) (s : List ℕ) (n i : ℕ) → i < n → take (storey form s i .count) (drop (membersBefore form s i) (firstMembers form s n)) ≡ listed (member form s i) (storey form s i .count)
+unfolding firstMembers
+part form s zero i h = absurd (not-suc-le-zero h)
+part form s (suc n) i h =
+    let xs = firstMembers form s n in
+    let ys = listed (member form s n) (storey form s n .count) in
+    let l = length-members form s n in
+    ⊎-elim
+    (λ (q : i ≡ n).
+    let z : membersBefore form s n ≡ length xs + 0 = omega (arith, l) in
+    let d : drop (membersBefore form s n) (xs ++ ys) ≡ ys = ap (λ (k : ℕ). drop k (xs ++ ys)) z ∙ drop-append-add xs ys 0 in
+    rw (q, d) (take-all (storey form s n .count) ys (omega (arith, length-listed (member form s n) (storey form s n .count)))))
+    (λ (g : i < n).
+    let r = before-rises form s (i + 1) n (omega arith) in
+    let k : membersBefore form s i + storey form s i .count ≤ length xs = omega (arith, before-suc form s i, l, r) in
+    rw (drop-append-le (membersBefore form s i) xs ys (omega arith), take-append-le (storey form s i .count) (drop (membersBefore form s i) xs) ys (omega (arith, length-drop (membersBefore form s i) xs)))
+    (part form s n i g)) (eq-or-lt-of-le (le-of-suc-le-suc h))
 
-  before-next : (i : ℕ) → membersBefore s (suc i) ≡ membersBefore s i + storey s i .count
-  unfolding membersBefore
-  before-next i = refl
-
-  part : (n i : ℕ) → i < n → take (storey s i .count) (drop (membersBefore s i) (firstMembers s n)) ≡ listed (member s i) (storey s i .count)
-  unfolding firstMembers
-  part zero i h = absurd (not-suc-le-zero h)
-  part (suc n) i h =
-      let xs = firstMembers s n in
-      let ys = listed (member s n) (storey s n .count) in
-      let l = length-members s n in
-      ⊎-elim
-      (λ (q : i ≡ n).
-      let z : membersBefore s n ≡ length xs + 0 = omega (arith, l) in
-      let d : drop (membersBefore s n) (xs ++ ys) ≡ ys = ap (λ (k : ℕ). drop k (xs ++ ys)) z ∙ drop-append-add xs ys 0 in
-      rw (q, d) (take-all (storey s n .count) ys (omega (arith, length-listed (member s n) (storey s n .count)))))
-      (λ (g : i < n).
-      let r = before-rises (suc i) n g in
-      let k : membersBefore s i + storey s i .count ≤ length xs = omega (arith, before-next i, l, r) in
-      rw (drop-append-le (membersBefore s i) xs ys (omega arith), take-append-le (storey s i .count) (drop (membersBefore s i) xs) ys (omega (arith, length-drop (membersBefore s i) xs)))
-      (part n i g)) (eq-or-lt-of-le (le-of-suc-le-suc h))
-
--- ---- a file without a refusal
-module _ (s : List ℕ) (srows mrows : ℕ) (z : surveyFault s srows mrows .number ≡ 0) where
-  abbrev n : ℕ
-  n = headerAt s 0 .count
-
+-- ---- the lines after the B line of a file with n storeys, without a refusal
+module _ (form : ℕ) (s : List ℕ) (srows mrows n : ℕ) (z : linesFault form s srows mrows n .number ≡ 0) where
   abbrev ss : List Storey
-  ss = listed (storey s) n
+  ss = listed (storey form s) n
 
   abbrev ms : List Member
-  ms = firstMembers s n
+  ms = firstMembers form s n
 
-  storey-at : (i : ℕ) → i < n → storeyIn ss i ≡ storey s i
-  storey-at i h = listed-at (storey s) noStorey n i h
+  storey-at : (i : ℕ) → i < n → storeyIn ss i ≡ storey form s i
+  storey-at i h = listed-at (storey form s) noStorey n i h
 
-  before-same : (i : ℕ) → i ≤ n → Rows.membersBefore ss i ≡ membersBefore s i
+  before-same : (i : ℕ) → i ≤ n → Rows.membersBefore ss i ≡ membersBefore form s i
   unfolding Rows.membersBefore membersBefore
   before-same zero h = refl
   before-same (suc i) h = rw (before-same i (omega arith), storey-at i h)
 
-  part-is : (i : ℕ) → i < n → membersOf ss ms i ≡ listed (member s i) (storey s i .count)
+  part-is : (i : ℕ) → i < n → membersOf ss ms i ≡ listed (member form s i) (storey form s i .count)
   unfolding membersOf
-  part-is i h = rw (storey-at i h, before-same i (omega arith)) (part s n i h)
+  part-is i h = rw (storey-at i h, before-same i (omega arith)) (part form s n i h)
 
-  header-good : headerFault (headerAt s 0) ≡ 0
-  unfolding headerLineFault
-  header-good = one (rest (rest (none (header-line s srows mrows z))))
-    where
-      none : inOrder (shape B s 0 ∷ fieldsFault B s 0 ∷ headerFault (headerAt s 0) ∷ []) ≡ 0 → None (shape B s 0 ∷ fieldsFault B s 0 ∷ headerFault (headerAt s 0) ∷ [])
-      none e = in-order-clear _ e
-
-  storey-checks : (i : ℕ) → i < n → None (shape S s (lineStart i (membersBefore s i)) ∷ unheld i srows ∷ fieldsFault S s (lineStart i (membersBefore s i)) ∷ storeyFault (storey s i) ∷ repeated (λ e. storey s e .number) i ∷ [])
-  unfolding storeyLineFault
-  storey-checks i h = in-order-clear _ (storey-line s srows mrows z i h)
-
-  member-checks : (i : ℕ) → i < n → (j : ℕ) → j < storey s i .count → None (shape M s (memberStart s i j) ∷ unheld (membersBefore s i + j) mrows ∷ fieldsFault M s (memberStart s i j) ∷ memberFault (member s i j) ∷ repeated (λ e. member s i e .number) j ∷ [])
-  unfolding memberLineFault
-  member-checks i h j l = in-order-clear _ (member-line s srows mrows z i h j l)
-
-  row-none : (i : ℕ) → i < n → (j : ℕ) → j < storey s i .count → rowFault (listed (member s i) (storey s i .count)) j ≡ 0
+  row-none : (i : ℕ) → i < n → (j : ℕ) → j < storey form s i .count → rowFault form (listed (member form s i) (storey form s i .count)) j ≡ 0
   unfolding rowFault
   row-none i h j l =
-      let c = member-checks i h j l in
-      let xs = listed (member s i) (storey s i .count) in
-      let same : (e : ℕ) → e ≤ j → memberIn xs e .number ≡ member s i e .number = λ e g. ap (λ (m : Member). m .number) (listed-at (member s i) noMember (storey s i .count) e (omega arith)) in
-      let own : memberFault (memberIn xs j) ≡ 0 = ap memberFault (listed-at (member s i) noMember (storey s i .count) j l) ∙ one (rest (rest (rest c))) in
-      in-order-none (also own (also (repeated-same (λ e. memberIn xs e .number) (λ e. member s i e .number) j same ∙ one (rest (rest (rest (rest c))))) end))
+      let c = member-checks form s mrows i j (member-line form s srows mrows n z i h j l) in
+      let xs = listed (member form s i) (storey form s i .count) in
+      let same : (e : ℕ) → e ≤ j → memberIn xs e .number ≡ member form s i e .number = λ e g. ap (λ (m : Member). m .number) (listed-at (member form s i) noMember (storey form s i .count) e (omega arith)) in
+      let good : memberFault form (member form s i j) ≡ 0 = member-good form s _ (member-clean form s srows mrows n z i h j l) (one (rest (rest (rest c)))) in
+      let own : memberFault form (memberIn xs j) ≡ 0 = ap (memberFault form) (listed-at (member form s i) noMember (storey form s i .count) j l) ∙ good in
+      in-order-none (also own (also (repeated-same (λ e. memberIn xs e .number) (λ e. member form s i e .number) j same ∙ one (rest (rest (rest (rest c))))) end))
 
-  members-none : (i : ℕ) → i < n → memberRowsFault (listed (member s i) (storey s i .count)) ≡ 0
+  members-none : (i : ℕ) → i < n → memberRowsFault form (listed (member form s i) (storey form s i .count)) ≡ 0
   unfolding memberRowsFault
   members-none i h =
-      first-zero 0 (λ r. r) (rowFault (listed (member s i) (storey s i .count))) (length (listed (member s i) (storey s i .count))) refl
-      (λ j l. row-none i h j (omega (arith, length-listed (member s i) (storey s i .count))))
+      first-zero 0 (λ r. r) (rowFault form (listed (member form s i) (storey form s i .count))) (length (listed (member form s i) (storey form s i .count))) refl
+      (λ j l. row-none i h j (omega (arith, length-listed (member form s i) (storey form s i .count))))
 
-  storey-none : (i : ℕ) → i < n → storeyRowsFault ss ms i ≡ 0
+  storey-none : (i : ℕ) → i < n → storeyRowsFault form ss ms i ≡ 0
   unfolding storeyRowsFault
   storey-none i h =
-      let c = storey-checks i h in
-      let same : (e : ℕ) → e ≤ i → storeyIn ss e .number ≡ storey s e .number = λ e g. ap (λ (t : Storey). t .number) (storey-at e (omega arith)) in
-      let own : storeyFault (storeyIn ss i) ≡ 0 = ap storeyFault (storey-at i h) ∙ one (rest (rest (rest c))) in
+      let c = storey-checks form s srows i (storey-line form s srows mrows n z i h) in
+      let same : (e : ℕ) → e ≤ i → storeyIn ss e .number ≡ storey form s e .number = λ e g. ap (λ (t : Storey). t .number) (storey-at e (omega arith)) in
+      let own : storeyFault form (storeyIn ss i) ≡ 0 = ap (storeyFault form) (storey-at i h) ∙ storey-good form s _ (one (rest (rest c))) in
       in-order-none
-      (also own (also (repeated-same (λ e. storeyIn ss e .number) (λ e. storey s e .number) i same ∙ one (rest (rest (rest (rest c)))))
-      (also (ap memberRowsFault (part-is i h) ∙ members-none i h) end)))
+      (also own (also (repeated-same (λ e. storeyIn ss e .number) (λ e. storey form s e .number) i same ∙ one (rest (rest (rest c))))
+      (also (ap (memberRowsFault form) (part-is i h) ∙ members-none i h) end)))
 
-  count-none : (a b : ℕ) → a ≡ b → countFault a b ≡ 0
-  count-none a b e = rw (eq-eqb a b e)
+  rows-none : first 0 (λ r. r) (storeyRowsFault form ss ms) (length ss) ≡ 0
+  rows-none = first-zero 0 (λ r. r) (storeyRowsFault form ss ms) (length ss) refl (λ i l. storey-none i (omega (arith, length-listed (storey form s) n)))
 
-  counts-none : countsFault (surveyOf (headerAt s 0) ss ms) ≡ 0
-  unfolding countsFault
-  counts-none =
-      in-order-none
-      (also (count-none n (length ss) (sym (length-listed (storey s) n)))
-      (also (count-none (total (λ t. t .count) ss) (length ms) (total-all s n ∙ sym (length-members s n))) end))
+count-none : (a b : ℕ) → a ≡ b → countFault a b ≡ 0
+count-none a b e = rw (eq-eqb a b e)
 
-  pub records-pass : recordsFault (surveyOf (headerAt s 0) ss ms) ≡ 0
+counts-none : (form : ℕ) (s : List ℕ) (n : ℕ) → headerAt form s 0 .count ≡ n → countsFault (surveyIn form s n) ≡ 0
+unfolding countsFault
+counts-none form s n e =
+    let ss = listed (storey form s) n in
+    in-order-none
+    (also (count-none (headerAt form s 0 .count) (length ss) (e ∙ sym (length-listed (storey form s) n)))
+    (also (count-none (total (λ t. t .count) ss) (length (firstMembers form s n)) (total-all form s n ∙ sym (length-members form s n))) end))
+
+-- ---- a file without a refusal
+module _ (s : List ℕ) (srows mrows : ℕ) (z : surveyFault s srows mrows .number ≡ 0) where
+  abbrev form : ℕ
+  form = formOf s
+
+  abbrev n : ℕ
+  n = headerAt (formOf s) s 0 .count
+
+  records-pass : recordsFault (surveyIn form s n) ≡ 0
   unfolding recordsFault
   records-pass =
-      in-order-none
-      (also counts-none (also header-good (also (first-zero 0 (λ r. r) (storeyRowsFault ss ms) (length ss) refl (λ i l. storey-none i (omega (arith, length-listed (storey s) n)))) end)))
+      let a = surveyIn form s n in
+      let rows : first 0 (λ r. r) (storeyRowsFault (a .header .form) (a .storeys) (a .members)) (length (a .storeys)) ≡ 0 = rw (form-is form s 0) (rows-none form s srows mrows n (lines-clear s srows mrows z)) in
+      in-order-none (also (counts-none form s n refl) (also (one (rest (rest (header-checks s (header-line s srows mrows z))))) (also rows end)))
 
 -- ---- an accepted file has no refusal, and its records are those that stand in its lines
 pub of-accepted : (t : Bool) (a b : Survey) (r l : ℕ) → pick t (accepted a) (refused r l) ≡ accepted b → (t ≡ true) × (a ≡ b)

@@ -24,29 +24,29 @@ use Rattle.reading.proofs.Structs.{reading}
 abbrev pub bytes : RattleType
 bytes = rtF (fInt w8)
 
-abbrev pub fill-members : Plain {n = 2} (pShrS bytes 0 tt ∷ pMutS (R member) 1 tt ∷ pNum w64 ∷ pNum w64 ∷ pNum w64 ∷ []) rUnit
+abbrev pub fill-members : Plain {n = 2} (pShrS bytes 0 tt ∷ pMutS (R member) 1 tt ∷ pNum w64 ∷ pNum w64 ∷ pNum w64 ∷ pNum w64 ∷ []) rUnit
 fill-members = record {
   requires = λ κs a.
-      ((a .1 .1 .0 ≤ 9)
-      × (a .1 .1 .1 .0 + a .1 .1 .1 .1 .0 ≤ 2000)
-      × (lineStart (a .1 .1 .0 + 1) (a .1 .1 .1 .0 + a .1 .1 .1 .1 .0) ≤ length (a .0 .now))
-      × (a .1 .1 .1 .0 + a .1 .1 .1 .1 .0 ≤ length (a .1 .0 .now)))
+      ((a .1 .1 .1 .0 ≤ 9)
+      × (a .1 .1 .1 .1 .0 + a .1 .1 .1 .1 .1 .0 ≤ 2000)
+      × (lineStart (a .1 .1 .0) (a .1 .1 .1 .0 + 1) (a .1 .1 .1 .1 .0 + a .1 .1 .1 .1 .1 .0) ≤ length (a .0 .now))
+      × (a .1 .1 .1 .1 .0 + a .1 .1 .1 .1 .1 .0 ≤ length (a .1 .0 .now)))
       ∷ [];
   ensures = λ κs a z e.
-      (e .1 .0 .now ≡ placed (λ (j : ℕ). memberAt (a .0 .now) (lineStart (a .1 .1 .0 + 1) (a .1 .1 .1 .0 + j))) (a .1 .1 .1 .0) (a .1 .1 .1 .1 .0) (a .1 .0 .now))
+      (e .1 .0 .now ≡ placed (λ (j : ℕ). memberAt (a .1 .1 .0) (a .0 .now) (lineStart (a .1 .1 .0) (a .1 .1 .1 .0 + 1) (a .1 .1 .1 .1 .0 + j))) (a .1 .1 .1 .1 .0) (a .1 .1 .1 .1 .1 .0) (a .1 .0 .now))
       ∷ [];
 }
 
-abbrev pub fill-storeys : Plain {n = 2} (pShrS bytes 0 tt ∷ pMutS (R storey) 1 tt ∷ pNum w64 ∷ []) rUnit
+abbrev pub fill-storeys : Plain {n = 2} (pShrS bytes 0 tt ∷ pMutS (R storey) 1 tt ∷ pNum w64 ∷ pNum w64 ∷ []) rUnit
 fill-storeys = record {
-  requires = λ κs a. (Fits (a .0 .now) (a .1 .1 .0) × (a .1 .1 .0 ≤ length (a .1 .0 .now))) ∷ [];
-  ensures = λ κs a z e. (e .1 .0 .now ≡ placed (storeyOf (a .0 .now)) 0 (a .1 .1 .0) (a .1 .0 .now)) ∷ [];
+  requires = λ κs a. (Fits (a .1 .1 .0) (a .0 .now) (a .1 .1 .1 .0) × (a .1 .1 .1 .0 ≤ length (a .1 .0 .now))) ∷ [];
+  ensures = λ κs a z e. (e .1 .0 .now ≡ placed (storeyOf (a .1 .1 .0) (a .0 .now)) 0 (a .1 .1 .1 .0) (a .1 .0 .now)) ∷ [];
 }
 
-abbrev pub fill-all : Plain {n = 2} (pShrS bytes 0 tt ∷ pMutS (R member) 1 tt ∷ pNum w64 ∷ []) rUnit
+abbrev pub fill-all : Plain {n = 2} (pShrS bytes 0 tt ∷ pMutS (R member) 1 tt ∷ pNum w64 ∷ pNum w64 ∷ []) rUnit
 fill-all = record {
-  requires = λ κs a. (Fits (a .0 .now) (a .1 .1 .0) × (membersBefore (a .0 .now) (a .1 .1 .0) ≤ length (a .1 .0 .now))) ∷ [];
-  ensures = λ κs a z e. (e .1 .0 .now ≡ filledMembers (a .0 .now) (a .1 .1 .0) (a .1 .0 .now)) ∷ [];
+  requires = λ κs a. (Fits (a .1 .1 .0) (a .0 .now) (a .1 .1 .1 .0) × (membersBefore (a .1 .1 .0) (a .0 .now) (a .1 .1 .1 .0) ≤ length (a .1 .0 .now))) ∷ [];
+  ensures = λ κs a z e. (e .1 .0 .now ≡ filledMembers (a .1 .1 .0) (a .0 .now) (a .1 .1 .1 .0) (a .1 .0 .now)) ∷ [];
 }
 
 abbrev pub read : Plain {n = 3} (pShrS bytes 0 tt ∷ pMutS (R storey) 1 tt ∷ pMutS (R member) 2 tt ∷ []) (made reading)

@@ -27,6 +27,11 @@ abbrev pub membersAfter : Outcome → List Member → List Member
 membersAfter (accepted a) rows = a .members ++ drop (length (a .members)) rows
 membersAfter (refused n line) rows = rows
 
+-- the form of an accepted file; the old one of a refused file
+abbrev pub formTold : Told → ℕ
+formTold (filled h storeys members) = h .form
+formTold (refusal n line) = 1
+
 -- how many storey rows an answer says were filled
 abbrev pub storeysTold : Told → ℕ
 storeysTold (filled h storeys members) = storeys

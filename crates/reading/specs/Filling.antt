@@ -11,6 +11,6 @@ placed f k zero rows = rows
 placed f k (suc n) rows = set (placed f k n rows) (k + n) (f n)
 
 -- the rows with the members of the first n storeys in front
-unfoldable pub filledMembers : List ℕ → ℕ → List Member → List Member
-filledMembers s zero rows = rows
-filledMembers s (suc i) rows = placed (member s i) (membersBefore s i) (storey s i .count) (filledMembers s i rows)
+unfoldable pub filledMembers : ℕ → List ℕ → ℕ → List Member → List Member
+filledMembers form s zero rows = rows
+filledMembers form s (suc i) rows = placed (member form s i) (membersBefore form s i) (storey form s i .count) (filledMembers form s i rows)

@@ -1,41 +1,62 @@
 // The check of a whole survey file: its first refusal, with the line.
 ghost use mathlib.Core.Path.{_≡_};
-ghost use mathlib.Core.Bool.{_&&_};
-ghost use Prim.Native.Nat.{ℕ, _+_, _≤_};
+ghost use Prim.Native.Nat.{ℕ, _+_, _*_, _≤_};
 ghost use lib.Dec.{eqb};
 ghost use lib.ListN.{length, getD};
 ghost use Rattle.records.specs.Notation.{pick, anyBelow};
-ghost use Rattle.reading.specs.Checks.{HeaderLineOf, StoreyLineOf, MemberGood, MemberLineOf, MembersDue, CheckedOf};
-ghost use Rattle.reading.specs.Survey.{lineStart, membersFault, survey};
-ghost use Rattle.records.specs.declared.Tag.the-variants.{S, M};
-ghost use Rattle.format.specs.Lines.{lineSize, storeyAt, memberAt};
-ghost use Rattle.reading.specs.Answer.{tells, told, storeysTold};
+ghost use Rattle.records.specs.Records.{storeyKind};
+ghost use Rattle.records.specs.declared.Kind.the-variants.{D};
+ghost use Rattle.format.specs.Lines.{lineSize, storeyAt, caseStart, caseLines, memberSize, caseAt, memberAt};
+ghost use Rattle.reading.specs.Checks.{LineGood, LineOf, lineFirst, HeaderLineOf, StoreyLineOf, MemberLineOf, MembersDue, CheckedOf};
+ghost use Rattle.reading.specs.Survey.{formOf, lineStart, lineNumber, caseNumberFault, caseLineFault, casesFault, membersFault, survey};
+ghost use Rattle.reading.specs.Answer.{tells, told, formTold, storeysTold};
+use format::lines::CASE_SIZE;
 use format::lines::HEADER_SIZE;
+use format::lines::MEMBER_CASES_SIZE;
 use format::lines::MEMBER_SIZE;
+use format::lines::STOREY_CASES_SIZE;
 use format::lines::STOREY_SIZE;
 use format::lines::fields_fault;
 use format::lines::is_framed;
 use format::lines::is_shaped;
+use format::lines::line_length;
 use format::lines::read_fields;
+use ranges::line_in_ranges;
+use records::CASES;
+use records::FIELDS_MOST;
+use records::FOUR_CASES;
 use records::Header;
+use records::Kind;
+use records::LoadCase;
 use records::Member;
 use records::Storey;
-use records::Tag;
 use records::first::earlier;
+use records::numbers::case_of;
 use records::numbers::header_of;
+use records::numbers::member_kind;
 use records::numbers::member_of;
+use records::numbers::member_with;
+use records::numbers::storey_kind;
 use records::numbers::storey_of;
-use records::ranges::header_fault;
-use records::ranges::member_fault;
-use records::ranges::storey_fault;
+use validity::header_fault;
+use validity::sides_fault;
 
 // 8: more members or storeys than the lent rows hold.
 const UNHELD: u64 = 8;
+
+// 12: D lines not numbered 1, 2, 3, 4.
+const MISNUMBERED: u64 = 12;
 
 // A refusal and its line; number 0 is none.
 pub struct Fault {
     pub number: u64,
     pub line: u64,
+}
+
+// A line's first refusal by its shape, its row and its fields, and the numbers that it holds where there is none.
+pub(crate) struct Line {
+    pub fault: u64,
+    pub values: [u64; FIELDS_MOST],
 }
 
 // A line's first refusal but 5, and what it holds where there is none.
@@ -54,142 +75,163 @@ pub(crate) struct MemberLine {
     pub number: u64,
 }
 
-// All fields are written as they must be and their record is not refused: no field is.
-fn is_good(written: bool, own: u64) -> bool
-    ensures { λ r. ⌜ r ≡ (written && eqb own 0) ⌝ }
+// The line at `at` by its fields: fault 0 where none is refused.
+fn line_fields(s: &[u8], at: usize, kind: Kind) -> Line
+    ensures { λ r. ⌜ LineGood kind (now (s .entry)) at r ⌝ }
 {
-    if written {
-        return own == 0;
-    }
-    false
-}
-
-pub(crate) fn header_line(s: &[u8]) -> HeaderLine
-    ensures { λ r. ⌜ HeaderLineOf (now (s .entry)) r ⌝ }
-{
-    if !is_shaped(s, 0, Tag::B) {
-        return HeaderLine {
-            fault: 1,
-            header: Header {
-                knowledge: 0,
-                height: 0,
-                storeys: 0,
-                tilt1: 0,
-                tilt2: 0,
-                count: 0,
-            },
-        };
-    }
-    let f = read_fields(s, 0, Tag::B);
-    let vs = f.values;
-    let h = header_of(vs);
-    let own = header_fault(h);
-    if is_good(f.written, own) {
-        return HeaderLine {
-            fault: 0,
-            header: h,
-        };
-    }
-    HeaderLine {
-        fault: earlier(fields_fault(s, 0, Tag::B), own),
-        header: h,
-    }
-}
-
-// An S line; held says whether a row is free for it.
-fn storey_line(s: &[u8], at: usize, held: bool) -> StoreyLine
-    ensures { λ r. ⌜ StoreyLineOf (now (s .entry)) at held r ⌝ }
-{
-    let none = Storey {
-        number: 0,
-        shear: 0,
-        count: 0,
-    };
-    if !is_shaped(s, at, Tag::S) {
-        return StoreyLine {
-            fault: 1,
-            storey: none,
-        };
-    }
-    if !held {
-        return StoreyLine {
-            fault: UNHELD,
-            storey: none,
-        };
-    }
-    let f = read_fields(s, at, Tag::S);
-    let vs = f.values;
-    let r = storey_of(vs);
-    let own = storey_fault(r);
-    if is_good(f.written, own) {
-        return StoreyLine {
-            fault: 0,
-            storey: r,
-        };
-    }
-    StoreyLine {
-        fault: earlier(fields_fault(s, at, Tag::S), own),
-        storey: r,
-    }
-}
-
-// The M line at `at` by its fields and its record: fault 0 where neither is refused.
-fn member_fields(s: &[u8], at: usize) -> MemberLine
-    ensures { λ r. ⌜ MemberGood (now (s .entry)) at r ⌝ }
-{
-    let f = read_fields(s, at, Tag::M);
-    let vs = f.values;
-    let m = member_of(vs);
+    let f = read_fields(s, at, kind);
+    let values = f.values;
     if !f.written {
-        return MemberLine {
-            fault: 2,
-            number: 0,
-        };
+        return Line { fault: 2, values };
     }
-    MemberLine {
-        fault: member_fault(m),
-        number: m.number,
+    if !line_in_ranges(kind, values) {
+        return Line { fault: 3, values };
     }
+    Line { fault: 0, values }
 }
 
-// The checks of an M line one after another; of a good one only the number is wanted.
-fn member_checks(s: &[u8], at: usize, held: bool) -> MemberLine
-    ensures { λ r. ⌜ MemberLineOf (now (s .entry)) at held r ⌝ }
+// The checks of a line one after another.
+fn line_fault(s: &[u8], at: usize, kind: Kind, held: bool) -> u64
+    ensures { λ r. ⌜ r ≡ lineFirst kind (now (s .entry)) at held ⌝ }
 {
-    if !is_shaped(s, at, Tag::M) {
-        return MemberLine {
-            fault: 1,
-            number: 0,
-        };
+    if !is_shaped(s, at, kind) {
+        return 1;
     }
     if !held {
-        return MemberLine {
-            fault: UNHELD,
-            number: 0,
-        };
+        return UNHELD;
     }
-    let f = read_fields(s, at, Tag::M);
-    let vs = f.values;
-    let m = member_of(vs);
-    MemberLine {
-        fault: earlier(fields_fault(s, at, Tag::M), member_fault(m)),
-        number: m.number,
+    fields_fault(s, at, kind)
+}
+
+fn line_checks(s: &[u8], at: usize, kind: Kind, held: bool) -> Line
+    ensures { λ r. ⌜ LineOf kind (now (s .entry)) at held r ⌝ }
+{
+    let f = read_fields(s, at, kind);
+    let values = f.values;
+    Line {
+        fault: line_fault(s, at, kind, held),
+        values,
     }
 }
 
-// An M line. Its fields are read first: where they hold a good member, there is no LF among them, and no check is left.
-fn member_line(s: &[u8], at: usize, held: bool) -> MemberLine
-    ensures { λ r. ⌜ MemberLineOf (now (s .entry)) at held r ⌝ }
+// A line; held says whether a row is free for it. Its fields are read first: where none is refused, there is no LF among them, and no check is left.
+fn checked_line(s: &[u8], at: usize, kind: Kind, held: bool) -> Line
+    ensures { λ r. ⌜ LineOf kind (now (s .entry)) at held r ⌝ }
 {
     if held {
-        if is_framed(s, at, Tag::M) {
-            let l = member_fields(s, at);
+        if is_framed(s, at, kind) {
+            let l = line_fields(s, at, kind);
             if l.fault == 0 {
                 return l;
             }
         }
     }
-    member_checks(s, at, held)
+    line_checks(s, at, kind, held)
+}
+
+// The form of a file, by the length of its first S line.
+fn file_form(s: &[u8]) -> u64
+    ensures { λ r. ⌜ r ≡ formOf (now (s .entry)) ⌝ }
+{
+    if line_length(s, HEADER_SIZE) == STOREY_CASES_SIZE - 1 {
+        return FOUR_CASES;
+    }
+    1
+}
+
+pub(crate) fn header_line(s: &[u8]) -> HeaderLine
+    ensures { λ r. ⌜ HeaderLineOf (now (s .entry)) r ⌝ }
+{
+    let l = checked_line(s, 0, Kind::B, true);
+    let vs = l.values;
+    let h = header_of(file_form(s), vs);
+    HeaderLine {
+        fault: earlier(l.fault, header_fault(h)),
+        header: h,
+    }
+}
+
+// An S line.
+fn storey_line(s: &[u8], form: u64, at: usize, held: bool) -> StoreyLine
+    ensures { λ r. ⌜ StoreyLineOf form (now (s .entry)) at held r ⌝ }
+{
+    let l = checked_line(s, at, storey_kind(form), held);
+    let vs = l.values;
+    StoreyLine {
+        fault: l.fault,
+        storey: storey_of(form, vs),
+    }
+}
+
+// An M line; of a good one only the number is wanted.
+fn member_line(s: &[u8], form: u64, at: usize, held: bool) -> MemberLine
+    ensures { λ r. ⌜ MemberLineOf form (now (s .entry)) at held r ⌝ }
+{
+    let l = checked_line(s, at, member_kind(form), held);
+    let vs = l.values;
+    MemberLine {
+        fault: earlier(l.fault, sides_fault(vs[2], vs[1])),
+        number: vs[0],
+    }
+}
+
+// 12 where the number of D line c, counted from 0, is another.
+fn case_number_fault(number: u64, c: usize) -> u64
+    requires { ⌜ c ≤ 4 ⌝ }
+    ensures { λ r. ⌜ r ≡ caseNumberFault number c ⌝ }
+{
+    if number == (c + 1) as u64 {
+        return 0;
+    }
+    MISNUMBERED
+}
+
+// D line c of an M line.
+fn case_line(s: &[u8], at: usize, c: usize) -> u64
+    requires { ⌜ c ≤ 4 ⌝ }
+    ensures { λ r. ⌜ r ≡ caseLineFault (now (s .entry)) at c ⌝ }
+{
+    let l = checked_line(s, at, Kind::D, true);
+    let vs = l.values;
+    earlier(l.fault, case_number_fault(vs[0], c))
+}
+
+// How many D lines follow an M line.
+fn case_lines(form: u64) -> usize
+    ensures { λ r. ⌜ r ≡ caseLines form ⌝ }
+{
+    if form == FOUR_CASES {
+        return CASES;
+    }
+    0
+}
+
+// Where D line c of the M line at `at` begins.
+fn case_start(at: usize, c: usize) -> usize
+    requires { ⌜ (at ≤ 1_000_000_000) × (c ≤ 4) ⌝ }
+    ensures { λ r. ⌜ r ≡ caseStart at c ⌝ }
+{
+    at + MEMBER_CASES_SIZE + CASE_SIZE * c
+}
+
+// The first refusal of the D lines of the M line at `at`, whose number is `line`.
+fn cases_fault(s: &[u8], form: u64, at: usize, line: usize) -> Fault
+    requires { ⌜ (at ≤ 1_000_000_000) × (line ≤ 1_000_000_000) ⌝ }
+    ensures { λ r. ⌜ r ≡ casesFault form (now (s .entry)) at line ⌝ }
+{
+    let n = case_lines(form);
+    let mut c = 0;
+    while c < n {
+        let f = case_line(s, case_start(at, c), c);
+        if f != 0 {
+            return Fault {
+                number: f,
+                line: (line + 1 + c) as u64,
+            };
+        }
+        c += 1;
+    }
+    Fault { number: 0, line: 0 }
 }
 
 // 5 where one of the first n numbers is v.
@@ -207,29 +249,62 @@ fn repeat_fault(numbers: &[u64; 200], n: usize, v: u64) -> u64
     0
 }
 
-// Where the line begins before which stand the B line, i S lines and m M lines.
-pub(crate) fn line_start(i: usize, m: usize) -> usize
-    requires { ⌜ (i ≤ 11) × (m ≤ 2200) ⌝ }
-    ensures { λ r. ⌜ r ≡ lineStart i m ⌝ }
+// How many bytes an S line takes, and an M line with its D lines.
+fn storey_size(form: u64) -> usize
+    ensures { λ r. ⌜ r ≡ lineSize (storeyKind form) ⌝ }
 {
-    HEADER_SIZE + STOREY_SIZE * i + MEMBER_SIZE * m
+    if form == FOUR_CASES {
+        return STOREY_CASES_SIZE;
+    }
+    STOREY_SIZE
 }
 
-// The first refusal of the M lines of storey i, before which m M lines stand.
-fn members_fault(s: &[u8], i: usize, m: usize, count: usize, rows: usize) -> Fault
-    requires { ⌜ MembersDue (now s) i m count ⌝ }
-    ensures { λ r. ⌜ r ≡ membersFault (now (s .entry)) rows i ⌝ }
+fn member_size(form: u64) -> usize
+    ensures { λ r. ⌜ r ≡ memberSize form ⌝ }
+{
+    if form == FOUR_CASES {
+        return MEMBER_CASES_SIZE + CASE_SIZE * CASES;
+    }
+    MEMBER_SIZE
+}
+
+// Where the line begins before which stand the B line, i S lines and m M lines with their D lines.
+pub(crate) fn line_start(form: u64, i: usize, m: usize) -> usize
+    requires { ⌜ (i ≤ 11) × (m ≤ 2200) ⌝ }
+    ensures { λ r. ⌜ r ≡ lineStart form i m ⌝ }
+{
+    HEADER_SIZE + storey_size(form) * i + member_size(form) * m
+}
+
+// The number of that line.
+fn line_number(form: u64, i: usize, m: usize) -> usize
+    requires { ⌜ (i ≤ 11) × (m ≤ 2200) ⌝ }
+    ensures { λ r. ⌜ r ≡ lineNumber form i m ⌝ }
+{
+    2 + i + (1 + case_lines(form)) * m
+}
+
+// The first refusal of the M lines of storey i, before which m M lines stand, and of their D lines.
+fn members_fault(s: &[u8], form: u64, i: usize, m: usize, count: usize, rows: usize) -> Fault
+    requires { ⌜ MembersDue form (now s) i m count ⌝ }
+    ensures { λ r. ⌜ r ≡ membersFault form (now (s .entry)) rows i ⌝ }
 {
     let mut numbers = [0u64; 200];
     let mut j = 0;
     while j < count {
-        let l = member_line(s, line_start(i + 1, m + j), m + j < rows);
+        let at = line_start(form, i + 1, m + j);
+        let line = line_number(form, i + 1, m + j);
+        let l = member_line(s, form, at, m + j < rows);
         let f = earlier(l.fault, repeat_fault(&numbers, j, l.number));
         if f != 0 {
             return Fault {
                 number: f,
-                line: (3 + i + m + j) as u64,
+                line: line as u64,
             };
+        }
+        let g = cases_fault(s, form, at, line);
+        if g.number != 0 {
+            return g;
         }
         numbers[j] = l.number;
         j += 1;
@@ -245,26 +320,26 @@ pub(crate) struct Checked {
 }
 
 // The first refusal of the S lines and their M lines, and of what follows the last.
-pub(crate) fn storeys_fault(s: &[u8], n: usize, srows: usize, mrows: usize) -> Checked
+pub(crate) fn storeys_fault(s: &[u8], form: u64, n: usize, srows: usize, mrows: usize) -> Checked
     requires { ⌜ n ≤ 10 ⌝ }
-    ensures { λ r. ⌜ CheckedOf (now (s .entry)) n srows mrows r ⌝ }
+    ensures { λ r. ⌜ CheckedOf form (now (s .entry)) n srows mrows r ⌝ }
 {
     let mut numbers = [0u64; 200];
     let mut i = 0;
     let mut m = 0;
     while i < n {
-        let l = storey_line(s, line_start(i, m), i < srows);
+        let l = storey_line(s, form, line_start(form, i, m), i < srows);
         let st = l.storey;
         let f = earlier(l.fault, repeat_fault(&numbers, i, st.number));
         if f != 0 {
             return Checked {
                 number: f,
-                line: (2 + i + m) as u64,
+                line: line_number(form, i, m) as u64,
                 members: m,
             };
         }
         let count = st.count as usize;
-        let g = members_fault(s, i, m, count, mrows);
+        let g = members_fault(s, form, i, m, count, mrows);
         if g.number != 0 {
             return Checked {
                 number: g.number,
@@ -276,10 +351,10 @@ pub(crate) fn storeys_fault(s: &[u8], n: usize, srows: usize, mrows: usize) -> C
         m += count;
         i += 1;
     }
-    if line_start(n, m) < s.len() {
+    if line_start(form, n, m) < s.len() {
         return Checked {
             number: 6,
-            line: (2 + n + m) as u64,
+            line: line_number(form, n, m) as u64,
             members: m,
         };
     }
@@ -322,7 +397,7 @@ pub(crate) fn check(s: &[u8], srows: usize, mrows: usize) -> Reading
     }
     let header = l.header;
     let storeys = header.count as usize;
-    let c = storeys_fault(s, storeys, srows, mrows);
+    let c = storeys_fault(s, header.form, storeys, srows, mrows);
     if c.number != 0 {
         return Reading {
             answer: ReadAnswer::Refused {
@@ -341,23 +416,62 @@ pub(crate) fn check(s: &[u8], srows: usize, mrows: usize) -> Reading
 }
 
 // The storey of the S line before which stand i S lines and m M lines.
-pub(crate) fn storey_at(s: &[u8], i: usize, m: usize) -> Storey
-    requires { ⌜ (i ≤ 10) × (m ≤ 2000) × (lineStart i m + lineSize S ≤ length (now s)) ⌝ }
-    ensures { λ r. ⌜ r ≡ storeyAt (now (s .entry)) (lineStart i m) ⌝ }
+pub(crate) fn storey_at(s: &[u8], form: u64, i: usize, m: usize) -> Storey
+    requires { ⌜ (i ≤ 10) × (m ≤ 2000) × (lineStart form i m + lineSize (storeyKind form) ≤ length (now s)) ⌝ }
+    ensures { λ r. ⌜ r ≡ storeyAt form (now (s .entry)) (lineStart form i m) ⌝ }
 {
-    let f = read_fields(s, line_start(i, m), Tag::S);
+    let f = read_fields(s, line_start(form, i, m), storey_kind(form));
     let vs = f.values;
-    storey_of(vs)
+    storey_of(form, vs)
+}
+
+// The load case of the D line at `at`.
+fn case_at(s: &[u8], at: usize) -> LoadCase
+    requires { ⌜ at + lineSize D ≤ length (now s) ⌝ }
+    ensures { λ r. ⌜ r ≡ caseAt (now (s .entry)) at ⌝ }
+{
+    let f = read_fields(s, at, Kind::D);
+    let vs = f.values;
+    case_of(vs)
+}
+
+// The member of the M line at `at` and its four D lines.
+fn member_of_cases(s: &[u8], at: usize) -> Member
+    requires { ⌜ (at ≤ 1_000_000_000) × (at + memberSize 2 ≤ length (now s)) ⌝ }
+    ensures { λ r. ⌜ r ≡ memberAt 2 (now (s .entry)) at ⌝ }
+{
+    let f = read_fields(s, at, Kind::M4);
+    let vs = f.values;
+    let a = case_at(s, case_start(at, 0));
+    let b = case_at(s, case_start(at, 1));
+    let c = case_at(s, case_start(at, 2));
+    let d = case_at(s, case_start(at, 3));
+    member_with(vs, [a, b, c, d])
 }
 
 // The member of the M line before which stand i S lines and m M lines.
-pub(crate) fn member_at(s: &[u8], i: usize, m: usize) -> Member
-    requires { ⌜ (i ≤ 10) × (m ≤ 2000) × (lineStart i m + lineSize M ≤ length (now s)) ⌝ }
-    ensures { λ r. ⌜ r ≡ memberAt (now (s .entry)) (lineStart i m) ⌝ }
+pub(crate) fn member_at(s: &[u8], form: u64, i: usize, m: usize) -> Member
+    requires { ⌜ (i ≤ 10) × (m ≤ 2000) × (lineStart form i m + memberSize form ≤ length (now s)) ⌝ }
+    ensures { λ r. ⌜ r ≡ memberAt form (now (s .entry)) (lineStart form i m) ⌝ }
 {
-    let f = read_fields(s, line_start(i, m), Tag::M);
+    let at = line_start(form, i, m);
+    if form == FOUR_CASES {
+        return member_of_cases(s, at);
+    }
+    let f = read_fields(s, at, Kind::M);
     let vs = f.values;
     member_of(vs)
+}
+
+// The form of an accepted file; the old one of a refused file.
+pub fn form_read(r: Reading) -> u64
+    ensures { λ n. ⌜ n ≡ formTold (tells (r .answer)) ⌝ }
+{
+    let a = r.answer;
+    match a {
+        ReadAnswer::Accepted { header, .. } => header.form,
+        ReadAnswer::Refused { .. } => 1,
+    }
 }
 
 // How many S lines an accepted file has; 0 of a refused one.

@@ -2,10 +2,31 @@
 
 pub mod first;
 pub mod numbers;
-pub mod ranges;
 
 // What stands for a force of 0 in N_D and N_K.
 pub const ZERO_FORCE: u64 = 20_000_000;
+
+// How many load cases a record holds.
+pub const CASES: usize = 4;
+
+// The form of four load cases; the old form is 1.
+pub const FOUR_CASES: u64 = 2;
+
+// How many fields a line has. The numbers of a line stand in an array that holds those of any.
+pub const HEADER_FIELDS: usize = 6;
+
+pub const STOREY_FIELDS: usize = 3;
+
+pub const MEMBER_FIELDS: usize = 26;
+
+// In the form of four cases: S, M and D.
+pub const STOREY_CASES_FIELDS: usize = 6;
+
+pub const MEMBER_CASES_FIELDS: usize = 18;
+
+pub const CASE_FIELDS: usize = 9;
+
+pub const FIELDS_MOST: usize = MEMBER_FIELDS;
 
 // The B line.
 #[repr(C)]
@@ -21,14 +42,16 @@ pub struct Header {
     pub tilt2: u64,
     // how many S lines follow
     pub count: u64,
+    // the form of the survey: 1 old, 2 four load cases
+    pub form: u64,
 }
 
 // The S line.
 #[repr(C)]
 pub struct Storey {
     pub number: u64,
-    // storey shear, 0.1 kN
-    pub shear: u64,
+    // storey shear of each load case, 0.1 kN; 0 in the cases that the form lacks
+    pub shears: [u64; CASES],
     // how many M lines follow
     pub count: u64,
 }
@@ -66,10 +89,11 @@ pub struct Member {
     pub damage: u64,
     // N_D, counted from -20,000,000
     pub nd: u64,
-    pub case: LoadCase,
+    // the cases that the form lacks hold 0
+    pub cases: [LoadCase; CASES],
 }
 
-// Fields 19 to 26: what one load case brings to a member. The grouping changes no rule.
+// What one load case brings to a member: fields 19 to 26 of an M line in the old form, a D line in the form of four cases.
 #[repr(C)]
 pub struct LoadCase {
     // N_K, counted from -20,000,000
@@ -111,9 +135,12 @@ pub struct MemberCase {
     pub case: LoadCase,
 }
 
-// The tag of a line.
-pub enum Tag {
+// The kind of a line: B; S and M of the old form; S, M and D of the form of four load cases.
+pub enum Kind {
     B,
     S,
     M,
+    S4,
+    M4,
+    D,
 }

@@ -1,5 +1,6 @@
 pub mod Printing
 pub mod Rows
+pub mod Cases
 pub mod Survey
 pub mod Structs
 pub mod Says

@@ -51,26 +51,26 @@ module _ (h : Header) (ss : List Storey) (ms : List Member) where
   pub refused : (x : BuildingAnswer) (n : ℕ) → x ≡ Refused n → n ≡ recordsFault (surveyOf h ss ms) → (n ≡ 0 → ⊥) → Answers publishedRules (surveyOf h ss ms) x
   refused x n e q ne = rw e (refused-by n q ne)
 
-  placed : (x : ℕ) → Seen (riskyAt publishedRules (h .knowledge) ss ms) (length ss) x → (ltb 0 x ≡ someRisky publishedRules (surveyOf h ss ms)) × PlaceOk publishedRules (surveyOf h ss ms) x
+  placed : (x : ℕ) → Seen (riskyAt publishedRules (h .form) (h .knowledge) ss ms) (length ss) x → (ltb 0 x ≡ someRisky publishedRules (surveyOf h ss ms)) × PlaceOk publishedRules (surveyOf h ss ms) x
   unfolding someRisky
   placed x (nothing a) = (sym a, nowhere a)
   placed x (first-at i l q) =
-      (lt-ltb 0 (i + 1) (omega arith) ∙ sym (any-holds (riskyAt publishedRules (h .knowledge) ss ms) (length ss) i l q), named i l q)
+      (lt-ltb 0 (i + 1) (omega arith) ∙ sym (any-holds (riskyAt publishedRules (h .form) (h .knowledge) ss ms) (length ss) i l q), named i l q)
 
-  place-found : (v : Verdict) → v ≡ verdictOf (h .knowledge) ss ms (length ss) → (ltb 0 (v .place) ≡ someRisky publishedRules (surveyOf h ss ms)) × PlaceOk publishedRules (surveyOf h ss ms) (v .place)
+  place-found : (v : Verdict) → v ≡ verdictOf (h .form) (h .knowledge) ss ms (length ss) → (ltb 0 (v .place) ≡ someRisky publishedRules (surveyOf h ss ms)) × PlaceOk publishedRules (surveyOf h ss ms) (v .place)
   unfolding verdictOf placeAt
-  place-found v e = placed (v .place) (rw e (seen (riskyAt publishedRules (h .knowledge) ss ms) (length ss)))
+  place-found v e = placed (v .place) (rw e (seen (riskyAt publishedRules (h .form) (h .knowledge) ss ms) (length ss)))
 
-  judged-by : (v : Verdict) → v ≡ verdictOf (h .knowledge) ss ms (length ss) → recordsFault (surveyOf h ss ms) ≡ 0 → Answers publishedRules (surveyOf h ss ms) (verdictAnswer h v)
+  judged-by : (v : Verdict) → v ≡ verdictOf (h .form) (h .knowledge) ss ms (length ss) → recordsFault (surveyOf h ss ms) ≡ 0 → Answers publishedRules (surveyOf h ss ms) (verdictAnswer h v)
   unfolding buildingAnswerBy buildingRisky
   judged-by v e none = let p = place-found v e in record { same = rw (eq-eqb (recordsFault (surveyOf h ss ms)) 0 none, p .0); place = p .1 }
 
-  module _ (f : ℕ) (q : f ≡ recordsFault (surveyOf h ss ms)) (y : f ≡ 0) (k : ℕ) (l : k ≡ h .knowledge) where
+  module _ (f : ℕ) (q : f ≡ recordsFault (surveyOf h ss ms)) (y : f ≡ 0) (form k : ℕ) (o : form ≡ h .form) (l : k ≡ h .knowledge) where
     none : recordsFault (surveyOf h ss ms) ≡ 0
     none = sym q ∙ y
 
-    pub good-rows : GoodRows k ss ms
-    good-rows = record { knowledge-level = rw l (known-level h ss ms none); counted = total-counted h ss ms none; good = rows-good h ss ms none }
+    pub good-rows : GoodRows form k ss ms
+    good-rows = record { knowledge-level = rw l (known-level h ss ms none); counted = total-counted h ss ms none; good = rw o (rows-good h ss ms none) }
 
-    pub judged-rows : (v : Verdict) (x : BuildingAnswer) → v ≡ verdictOf k ss ms (length ss) → x ≡ verdictAnswer h v → Answers publishedRules (surveyOf h ss ms) x
-    judged-rows v x p w = rw w (judged-by v (rw (← l) p) none)
+    pub judged-rows : (v : Verdict) (x : BuildingAnswer) → v ≡ verdictOf form k ss ms (length ss) → x ≡ verdictAnswer h v → Answers publishedRules (surveyOf h ss ms) x
+    judged-rows v x p w = rw w (judged-by v (rw (← o, ← l) p) none)

@@ -1,136 +1,127 @@
--- The call on a storey: its finding from the totals, and the order of its refusals.
-use Prim.Native.Nat.{ℕ, suc, _+_, _*_, _-_, _≤_, _<_}
+-- The call on a storey: its finding in a case from the totals, the cases together, and the order of its refusals.
+use Prim.Native.Nat.{ℕ, suc, _+_, _*_, _≤_, _<_}
 use native.Mathlib.Omega.{arith}
-use mathlib.Core.Bool.{Bool, true, false}
+use native.Mathlib.Numerals.{add-one}
+use mathlib.Core.Bool.{Bool, true, false, _||_}
 use mathlib.Core.List.{List, [], _∷_}
 use mathlib.Core.Path.{_≡_, refl, ap, sym, _∙_}
-use lib.Dec.{leb, eqb}
-use lib.ListN.{length, getD}
-use borrow.Author.Tests.{ne-eqb, eqb-true, leb-true, le-leb, le-ltb, eq-eqb}
-use Rattle.records.specs.Notation.{pick, everyBelow, inOrder, total}
-use Rattle.records.specs.Records.{storeyFault, storeyValues, inRange, inCase}
+use lib.Dec.{eqb}
+use lib.ListN.{length}
+use borrow.Author.Tests.{ne-eqb, le-leb, le-ltb, eq-eqb}
+use Rattle.records.specs.Notation.{pick, anyBelow, total}
+use Rattle.records.specs.Records.{caseCount, shearOf, caseOf, inCase, storeyFault}
 use Rattle.records.specs.declared.Storey.{Storey}
 use Rattle.records.specs.declared.Member.{Member}
-use Rattle.records.specs.declared.Tag.the-variants.{S}
-use Rattle.records.proofs.Below.{and-right, every-at}
-use Rattle.records.proofs.Firsts.{in-order-last, pick-zero, pick-other, pick-clear, pick-both}
-use Rattle.records.proofs.Validity.{count-most, clear}
-use Rattle.members.specs.Finding.{knowledge}
+use Rattle.records.proofs.Firsts.{in-order-last, pick-zero, pick-other}
+use Rattle.records.proofs.Validity.{shear-most}
 use Rattle.members.specs.Class.{isWall}
-use Rattle.storeys.specs.declared.StoreyFinding.{StoreyFinding}
-use Rattle.storeys.specs.declared.StoreyAnswer.{StoreyAnswer}
-use Rattle.storeys.specs.declared.StoreyAnswer.the-variants.{Judged, Refused}
-use Rattle.storeys.specs.declared.row.Tally.{Tally}
-use Rattle.storeys.specs.Storey.{publishedRules, wallShear, meetsWallShare, over, shearIfOver, overShear, storeyRisky, riskyByDamage, storeyFinding, knowledgeFault, storeyCallFault, storeyAnswerBy, returnedStorey, storeyReturned}
 use Rattle.checks.specs.Rows.{countFault, memberIn, memberRowsFault}
-use Rattle.records.specs.Blank.{noMember}
-use Rattle.storeys.specs.Totals.{membersMost, shearMost, totalMost, riskyIn, foundBy, wallsFrom, wallsSuffice}
-use Rattle.storeys.specs.Tally.{tallyOf, Rows, headFault}
+use Rattle.totals.specs.declared.StoreyFinding.{StoreyFinding}
+use Rattle.storeys.specs.declared.StoreyAnswer.{StoreyAnswer}
+use Rattle.storeys.specs.declared.StoreyAnswer.the-variants.{Judged, JudgedCases, Refused}
+use Rattle.totals.specs.declared.Tally.{Tally}
+use Rattle.totals.specs.Totals.{wallShear}
+use Rattle.storeys.specs.Storey.{publishedRules, meetsWallShare, overShear, riskyByDamage, caseRisky, storeyRisky, storeyFinding, findingIn, levelFault, storeyCallFault, judgedBy, storeyAnswerBy, returnedStorey, storeyReturned}
+use Rattle.totals.specs.Totals.{membersMost, shearMost, totalMost, foundBy}
+use Rattle.storeys.specs.Tally.{tallyOf, Rows, casesBy, headFault, wallsFrom, wallsSuffice}
 use Rattle.storeys.proofs.Loops.{row-valid, pick-most}
-
--- a good storey's shear
-pub shear-most : (s : Storey) → storeyFault s ≡ 0 → s .shear ≤ 9_999_999
-unfolding storeyFault
-shear-most s e =
-    let t = clear (everyBelow (inRange S (storeyValues s)) 3) 0 3 e (omega arith) .0 in
-    leb-true (s .shear) 9_999_999 (and-right (leb 1 (s .shear)) (leb (s .shear) 9_999_999) (every-at (inRange S (storeyValues s)) 3 1 t (omega arith)))
-
--- a total of bounded terms
-pub total-most : {A : Type 0} (f : A → ℕ) (d : A) (n : ℕ) (xs : List A) → ((j : ℕ) → j < length xs → f (getD xs j d) ≤ n) → total f xs ≤ n * length xs
-unfolding total
-total-most f d n [] h = omega arith
-total-most f d n (x ∷ xs) h =
-    let a : f x ≤ n = h 0 (omega arith) in
-    let b = total-most f d n xs (λ j l. h (suc j) (omega arith)) in
-    omega arith
+use Rattle.storeys.proofs.Shears.{over-shear-most}
 
 -- the walls' V of good members, from t on
-walls-from : (t : ℕ) (ms : List Member) → ((j : ℕ) → j < length ms → memberIn ms j .case .shear ≤ shearMost) → t + shearMost * length ms ≤ totalMost → wallsFrom t ms ≡ t + total wallShear ms
+walls-from : (c t : ℕ) (ms : List Member) → ((j : ℕ) → j < length ms → caseOf c (memberIn ms j) .shear ≤ shearMost) → t + shearMost * length ms ≤ totalMost → wallsFrom t c ms ≡ t + total (λ m. wallShear (inCase c m)) ms
 unfolding wallsFrom total
-walls-from t [] h l = omega arith
-walls-from t (m ∷ ms) h l =
-    let a : m .case .shear ≤ shearMost = h 0 (omega arith) in
+walls-from c t [] h l = omega arith
+walls-from c t (m ∷ ms) h l =
+    let a : caseOf c m .shear ≤ shearMost = h 0 (omega arith) in
     let b : t ≤ totalMost = omega (arith, l) in
-    let c = pick-most (isWall (inCase m)) (m .case .shear) shearMost a in
-    rw (le-leb t totalMost b, le-leb (m .case .shear) shearMost a)
-    (walls-from (t + wallShear m) ms (λ j i. h (suc j) (omega arith)) (omega (arith, l, c)) ∙ omega arith)
+    let d = pick-most (isWall (inCase c m)) (caseOf c m .shear) shearMost a in
+    rw (le-leb t totalMost b, le-leb (caseOf c m .shear) shearMost a)
+    (walls-from c (t + wallShear (inCase c m)) ms (λ j i. h (suc j) (omega arith)) (omega (arith, l, d)) ∙ omega arith)
 
-module _ (rows : List Member) (g : Rows rows) where
-  walls-total : wallsFrom 0 rows ≡ total wallShear rows
-  walls-total = omega (arith, walls-from 0 rows (λ j l. row-valid rows g j l .shear) (omega (arith, g .most)))
+-- ---- a storey in case c
+module _ (form c : ℕ) (i : c < caseCount form) (rows : List Member) (g : Rows form rows) where
+  walls-total : wallsFrom 0 c rows ≡ total (λ m. wallShear (inCase c m)) rows
+  walls-total = omega (arith, walls-from c 0 rows (λ j l. row-valid form c i rows g j l .shear) (omega (arith, g .most)))
 
-  over-shear-small : (k : ℕ) (met : Bool) → overShear publishedRules k met rows ≤ totalMost
-  unfolding overShear
-  over-shear-small k met =
-      omega (arith, g .most, total-most (shearIfOver publishedRules k met) noMember 9_999_999 rows (λ j l. pick-most (over publishedRules k met (memberIn rows j)) (memberIn rows j .case .shear) 9_999_999 (row-valid rows g j l .shear)))
+  module _ (s : Storey) (good : storeyFault form s ≡ 0) where
+    abbrev w : ℕ
+    w = shearOf c s
 
-  module _ (s : Storey) (good : storeyFault s ≡ 0) where
-    pub walls-are : wallsSuffice (s .shear) rows ≡ meetsWallShare (s .shear) rows
+    pub walls-are : wallsSuffice c (shearOf c s) rows ≡ meetsWallShare c (shearOf c s) rows
     unfolding wallsSuffice meetsWallShare
-    walls-are = rw (le-leb (s .shear) shearMost (shear-most s good), walls-total)
+    walls-are = rw (le-leb w shearMost (shear-most form s c good i), walls-total)
 
     -- the finding by the totals is the storey's
-    found-by-totals : (k : ℕ) (met : Bool) → met ≡ meetsWallShare (s .shear) rows → foundBy s met (tallyOf k met rows) ≡ storeyFinding publishedRules k (s .shear) rows
-    unfolding foundBy riskyIn tallyOf storeyFinding storeyRisky riskyByDamage
+    found-by-totals : (k : ℕ) (met : Bool) → met ≡ meetsWallShare c w rows → foundBy w met (tallyOf k met c rows) ≡ findingIn publishedRules k s rows c
+    unfolding foundBy tallyOf storeyFinding caseRisky riskyByDamage
     found-by-totals k met e =
-        let m = meetsWallShare (s .shear) rows in
-        rw (e, le-ltb membersMost (length rows) (g .most), le-ltb totalMost (overShear publishedRules k m rows) (over-shear-small k m), le-ltb shearMost (s .shear) (shear-most s good))
+        let m = meetsWallShare c w rows in
+        rw (e, le-ltb membersMost (length rows) (g .most), le-ltb totalMost (overShear publishedRules k m c rows) (omega (arith, over-shear-most publishedRules form k c m rows i (g .good) (g .most))), le-ltb shearMost w (shear-most form s c good i))
 
-    pub found-is : (k : ℕ) (met : Bool) (t : Tally) (f : StoreyFinding) → met ≡ wallsSuffice (s .shear) rows → t ≡ tallyOf k met rows → f ≡ foundBy s met t → f ≡ storeyFinding publishedRules k (s .shear) rows
-    found-is k met t f b c d = d ∙ ap (foundBy s met) c ∙ found-by-totals k met (b ∙ walls-are)
+    pub found-is : (k x : ℕ) (met : Bool) (t : Tally) (f : StoreyFinding) → x ≡ shearOf c s → met ≡ wallsSuffice c x rows → t ≡ tallyOf k met c rows → f ≡ foundBy x met t → f ≡ findingIn publishedRules k s rows c
+    found-is k x met t f p b q d = d ∙ rw (p, q) (found-by-totals k met ((rw p at b) ∙ walls-are))
 
--- ---- the refusals before the finding
-module _ (k : ℕ) (s : Storey) (rows : List Member) (first : ℕ) (h : first ≡ headFault k s (length rows)) where
-  all-two : storeyCallFault k s rows ≡ pick (eqb first 0) (memberRowsFault rows) first
+-- ---- the cases together
+module _ (k : ℕ) (s : Storey) (rows : List Member) where
+  abbrev pub risky-in : ℕ → Bool
+  risky-in c = caseRisky publishedRules k c (shearOf c s) rows
+
+  pub risky-none : false ≡ anyBelow risky-in 0
+  unfolding anyBelow
+  risky-none = refl
+
+  pub risky-next : (c : ℕ) (before z : Bool) (f : StoreyFinding) → before ≡ anyBelow risky-in c → f ≡ findingIn publishedRules k s rows c → z ≡ (before || f .risky) → z ≡ anyBelow risky-in (c + 1)
+  unfolding storeyFinding anyBelow
+  risky-next c before z f b e q = q ∙ rw (b, e, add-one c)
+
+  pub risky-all : (form c n : ℕ) (z : Bool) → n ≡ caseCount form → c ≤ n → n ≤ c → z ≡ anyBelow risky-in c → z ≡ storeyRisky publishedRules form k s rows
+  unfolding storeyRisky
+  risky-all form c n z e l h q = let d : c ≡ caseCount form = omega (arith, e) in q ∙ ap (anyBelow risky-in) d
+
+-- the form of four cases has four
+pub case-of-four : (form c : ℕ) → form ≡ 2 → c < 4 → c < caseCount form
+case-of-four form c e l = rw e l
+
+some-of-four : (a b c d : Bool) → (a || (b || (c || d))) ≡ (((a || b) || c) || d)
+some-of-four true b c d = refl
+some-of-four false true c d = refl
+some-of-four false false c d = refl
+
+module _ (form k : ℕ) (s : Storey) (rows : List Member) (a : StoreyAnswer) where
+  pub judged-one : (f : StoreyFinding) → (form ≡ 2 → ⊥) → f ≡ findingIn publishedRules k s rows 0 → a ≡ Judged f → a ≡ judgedBy publishedRules k form s rows
+  judged-one f ne e q = q ∙ rw (e, ne-eqb form 2 ne)
+
+  pub judged-four : (f g h i : StoreyFinding) → form ≡ 2 → f ≡ findingIn publishedRules k s rows 0 → g ≡ findingIn publishedRules k s rows 1 → h ≡ findingIn publishedRules k s rows 2 → i ≡ findingIn publishedRules k s rows 3 → a ≡ JudgedCases (casesBy f g h i) → a ≡ judgedBy publishedRules k form s rows
+  unfolding storeyRisky storeyFinding anyBelow
+  judged-four f g h i e p q r t z = z ∙ rw (e, p, q, r, t, some-of-four (risky-in k s rows 0) (risky-in k s rows 1) (risky-in k s rows 2) (risky-in k s rows 3))
+
+-- ---- where the call refuses nothing
+module _ (k form : ℕ) (s : Storey) (rows : List Member) (none : storeyCallFault k form s rows ≡ 0) where
+  answered : judgedBy publishedRules k form s rows ≡ storeyAnswerBy publishedRules k form s rows
+  unfolding storeyAnswerBy
+  answered = rw (eq-eqb _ _ none)
+
+  pub judged-is : (a : StoreyAnswer) → a ≡ judgedBy publishedRules k form s rows → returnedStorey a ≡ storeyReturned k form s rows
+  judged-is a e = ap returnedStorey (e ∙ answered)
+
+-- ---- the order of the refusals
+module _ (k form : ℕ) (s : Storey) (rows : List Member) (first : ℕ) (h : first ≡ headFault k form s (length rows)) where
+  all-two : storeyCallFault k form s rows ≡ pick (eqb first 0) (memberRowsFault form rows) first
   unfolding storeyCallFault
   all-two =
-      in-order-last (countFault (s .count) (length rows) ∷ knowledgeFault k ∷ storeyFault s ∷ []) (memberRowsFault rows)
-      ∙ ap (λ (x : ℕ). pick (eqb x 0) (memberRowsFault rows) x) (sym h)
+      in-order-last (countFault (s .count) (length rows) ∷ levelFault k form ∷ storeyFault form s ∷ []) (memberRowsFault form rows)
+      ∙ ap (λ (x : ℕ). pick (eqb x 0) (memberRowsFault form rows) x) (sym h)
 
-  refused-is : (n : ℕ) → storeyCallFault k s rows ≡ n → (n ≡ 0 → ⊥) → Refused n ≡ storeyAnswerBy publishedRules k s rows
+  refused-is : (n : ℕ) → storeyCallFault k form s rows ≡ n → (n ≡ 0 → ⊥) → Refused n ≡ storeyAnswerBy publishedRules k form s rows
   unfolding storeyAnswerBy
   refused-is n e ne = rw e (simp (ne-eqb n 0 ne))
 
-  pub head-refused : (a : StoreyAnswer) → (first ≡ 0 → ⊥) → a ≡ Refused first → returnedStorey a ≡ storeyReturned k s rows
-  head-refused a ne q = ap returnedStorey (q ∙ refused-is first (all-two ∙ pick-other first (memberRowsFault rows) ne) ne)
+  pub head-refused : (a : StoreyAnswer) → (first ≡ 0 → ⊥) → a ≡ Refused first → returnedStorey a ≡ storeyReturned k form s rows
+  head-refused a ne q = ap returnedStorey (q ∙ refused-is first (all-two ∙ pick-other first (memberRowsFault form rows) ne) ne)
 
-  module _ (z : first ≡ 0) (f : ℕ) (fp : f ≡ memberRowsFault rows) where
-    after : storeyCallFault k s rows ≡ f
-    after = all-two ∙ pick-zero first (memberRowsFault rows) z ∙ sym fp
+  module _ (z : first ≡ 0) (f : ℕ) (e : f ≡ memberRowsFault form rows) where
+    pub call-fault : storeyCallFault k form s rows ≡ f
+    call-fault = all-two ∙ pick-zero first (memberRowsFault form rows) z ∙ sym e
 
-    pub rows-refused : (a : StoreyAnswer) → (f ≡ 0 → ⊥) → a ≡ Refused f → returnedStorey a ≡ storeyReturned k s rows
-    rows-refused a ne q = ap returnedStorey (q ∙ refused-is f after ne)
-
-    clear-head : inOrder (countFault (s .count) (length rows) ∷ knowledgeFault k ∷ storeyFault s ∷ []) ≡ 0
-    clear-head = sym h ∙ z
-
-    test-clear : (t : Bool) (r : ℕ) → 0 < r → pick t 0 r ≡ 0 → t ≡ true
-    test-clear true r l e = refl
-    test-clear false r l e = let y : ⊥ = omega (arith, e) in absurd y
-
-    pub storey-clear : storeyFault s ≡ 0
-    storey-clear =
-        let a = pick-both (countFault (s .count) (length rows)) (inOrder (knowledgeFault k ∷ storeyFault s ∷ [])) clear-head in
-        let b = pick-both (knowledgeFault k) (inOrder (storeyFault s ∷ [])) a in
-        pick-clear (storeyFault s) 0 b
-
-    pub level-clear : knowledge k ≡ true
-    level-clear =
-        let a = pick-both (countFault (s .count) (length rows)) (inOrder (knowledgeFault k ∷ storeyFault s ∷ [])) clear-head in
-        test-clear (knowledge k) 3 (omega arith) (pick-clear (knowledgeFault k) (inOrder (storeyFault s ∷ [])) a)
-
-    count-is : s .count ≡ length rows
-    count-is =
-        eqb-true (s .count) (length rows)
-        (test-clear (eqb (s .count) (length rows)) 1 (omega arith) (pick-clear (countFault (s .count) (length rows)) (inOrder (knowledgeFault k ∷ storeyFault s ∷ [])) clear-head))
-
-    pub rows-clear : f ≡ 0 → Rows rows
-    rows-clear y = record { good = sym fp ∙ y; most = omega (arith, count-is, count-most s storey-clear) }
-
-    module _ (y : f ≡ 0) where
-      found-by : (x : StoreyFinding) → x ≡ storeyFinding publishedRules k (s .shear) rows → Judged x ≡ storeyAnswerBy publishedRules k s rows
-      unfolding storeyAnswerBy
-      found-by x q = rw (q, eq-eqb _ _ (after ∙ y))
-
-      pub judged-is : (a : StoreyAnswer) (x : StoreyFinding) → x ≡ storeyFinding publishedRules k (s .shear) rows → a ≡ Judged x → returnedStorey a ≡ storeyReturned k s rows
-      judged-is a x q e = ap returnedStorey (e ∙ found-by x q)
+    pub rows-refused : (a : StoreyAnswer) → (f ≡ 0 → ⊥) → a ≡ Refused f → returnedStorey a ≡ storeyReturned k form s rows
+    rows-refused a ne q = ap returnedStorey (q ∙ refused-is f call-fault ne)

@@ -8,5 +8,5 @@ pub mod Verdicts
 pub mod BuildingRows
 pub mod BuildingAnswers
 pub mod Returned
-pub mod Share
 pub mod Shears
+pub mod Cases

@@ -3,27 +3,29 @@ use Prim.Native.Nat.{ℕ, zero, suc, _+_, _*_, _-_, _≤_, _<_}
 use native.Mathlib.Omega.{arith}
 use native.Mathlib.Numerals.{add-one}
 use mathlib.Core.Bool.{Bool, true, false, _&&_, _||_, or-false, or-assoc}
-use mathlib.Core.List.{List}
+use mathlib.Core.List.{List, [], _∷_}
 use mathlib.Core.Path.{_≡_, refl, ap, sym, _∙_}
 use lib.Dec.{leb, eqb}
 use lib.ListN.{length, drop, getD, drop-of-length-le}
 use lib.Seq.{drop-cons}
 use borrow.Author.Tests.{leb-true}
 use Rattle.records.specs.Notation.{pick, total, anyOf}
-use Rattle.records.specs.Records.{memberFault, inCase}
+use Rattle.records.specs.Records.{caseCount, caseOf, inCase, memberCaseFault}
 use Rattle.records.specs.Valid.{Valid}
 use Rattle.records.specs.declared.Member.{Member}
-use Rattle.records.proofs.Firsts.{first-clear, pick-clear}
-use Rattle.records.proofs.Validity.{valid}
+use Rattle.records.specs.declared.MemberCase.{MemberCase}
+use Rattle.records.proofs.Validity.{valid, case-good}
 use Rattle.members.specs.Units.{ratioCap}
 use Rattle.members.specs.Class.{isWall}
-use Rattle.members.specs.Finding.{axialRatioD, knowledge, flag}
-use Rattle.storeys.specs.Storey.{publishedRules, axialTotal, over, shearIfOver, overShear, someOver, damaged}
-use Rattle.checks.specs.Rows.{memberIn, rowFault, memberRowsFault}
+use Rattle.members.specs.Finding.{knowledge, flag}
+use Rattle.storeys.specs.Storey.{publishedRules, memberAxial, axialTotal, over, shearIfOver, overShear, someOver, damaged}
+use Rattle.checks.specs.Rows.{memberIn}
+use Rattle.checks.proofs.Refusals.{one}
+use Rattle.checks.proofs.RowLaws.{row-good as good-row}
 use Rattle.records.specs.Blank.{noMember}
-use Rattle.storeys.specs.declared.row.Tally.{Tally}
-use Rattle.storeys.specs.Totals.{shearMost, totalMost, weightOf, noTally, addedWall, wallsFrom, metBy, wallsSuffice}
-use Rattle.storeys.specs.Tally.{added, tallyOf, Rows, AddsUp}
+use Rattle.totals.specs.declared.Tally.{Tally}
+use Rattle.totals.specs.Totals.{shearMost, totalMost, weightOf, noTally, addedWall, metBy}
+use Rattle.storeys.specs.Tally.{withMember, tallyOf, Rows, AddsUp, wallsFrom, wallsSuffice}
 use Rattle.storeys.proofs.Rows.{nd-most}
 
 -- ---- totals
@@ -35,6 +37,15 @@ module _ {A : Type 0} (f : A → ℕ) (d : A) where
   pub total-end : (xs : List A) (j : ℕ) → length xs ≤ j → total f (drop j xs) ≡ 0
   unfolding total
   total-end xs j h = rw (drop-of-length-le xs h)
+
+-- a total of bounded terms
+pub total-most : {A : Type 0} (f : A → ℕ) (d : A) (n : ℕ) (xs : List A) → ((j : ℕ) → j < length xs → f (getD xs j d) ≤ n) → total f xs ≤ n * length xs
+unfolding total
+total-most f d n [] h = omega arith
+total-most f d n (x ∷ xs) h =
+    let a : f x ≤ n = h 0 (omega arith) in
+    let b = total-most f d n xs (λ j l. h (suc j) (omega arith)) in
+    omega arith
 
 some-drop : {A : Type 0} (p : A → Bool) (d : A) (xs : List A) (j : ℕ) → j < length xs → anyOf p (drop j xs) ≡ (p (getD xs j d) || anyOf p (drop (j + 1) xs))
 unfolding anyOf
@@ -49,57 +60,47 @@ pick-most true a n h = h
 pick-most false a n h = omega arith
 
 -- ---- good rows
-module _ (rows : List Member) (g : Rows rows) (j : ℕ) (h : j < length rows) where
-  pub row-good : memberFault (memberIn rows j) ≡ 0
-  unfolding memberRowsFault rowFault
-  row-good = pick-clear (memberFault (memberIn rows j)) _ (first-clear 0 (λ r. r) (rowFault rows) (length rows) j (g .good) h)
+module _ (form c : ℕ) (l : c < caseCount form) (rows : List Member) (g : Rows form rows) (j : ℕ) (h : j < length rows) where
+  row-good : memberCaseFault (inCase c (memberIn rows j)) ≡ 0
+  row-good = case-good form c (memberIn rows j) (one (good-row form rows (g .good) j h)) l
 
-  pub row-valid : Valid (inCase (memberIn rows j))
-  row-valid = valid (memberIn rows j) row-good
+  pub row-valid : Valid (inCase c (memberIn rows j))
+  row-valid = valid (inCase c (memberIn rows j)) row-good
 
 -- ---- the walls' V
-module _ (rows : List Member) (t j : ℕ) (e : wallsFrom t (drop j rows) ≡ wallsFrom 0 rows) where
-  pub wall-next : (r : ℕ) → j < length rows → r ≡ addedWall t (memberIn rows j) → wallsFrom r (drop (j + 1) rows) ≡ wallsFrom 0 rows
+module _ (c : ℕ) (rows : List Member) (t j : ℕ) (e : wallsFrom t c (drop j rows) ≡ wallsFrom 0 c rows) where
+  pub wall-next : (r : ℕ) → j < length rows → r ≡ addedWall t (inCase c (memberIn rows j)) → wallsFrom r c (drop (j + 1) rows) ≡ wallsFrom 0 c rows
   unfolding wallsFrom
   wall-next r h q = rw (q, add-one j) (rw (drop-cons rows j noMember h) at e)
 
-  pub wall-all : length rows ≤ j → t ≡ wallsFrom 0 rows
+  pub wall-all : length rows ≤ j → t ≡ wallsFrom 0 c rows
   unfolding wallsFrom
   wall-all h = rw (drop-of-length-le rows h) at e
 
-pub suffice-is : (rows : List Member) (w t : ℕ) (z : Bool) → t ≡ wallsFrom 0 rows → z ≡ metBy w t → z ≡ wallsSuffice w rows
+pub suffice-is : (c : ℕ) (rows : List Member) (w t : ℕ) (z : Bool) → t ≡ wallsFrom 0 c rows → z ≡ metBy w t → z ≡ wallsSuffice c w rows
 unfolding wallsSuffice
-suffice-is rows w t z e q = q ∙ rw e
-
-pub wall-most : (t r : ℕ) (m : Member) → t ≤ totalMost + shearMost → r ≡ addedWall t m → r ≤ totalMost + shearMost
-wall-most t r m l q = rw q (go (leb t totalMost) (leb (m .case .shear) shearMost) (isWall (inCase m)) refl refl)
-  where
-    go : (a b w : Bool) → leb t totalMost ≡ a → leb (m .case .shear) shearMost ≡ b → pick (a && b) (t + pick w (m .case .shear) 0) t ≤ totalMost + shearMost
-    go true true true e f = omega (arith, leb-true t totalMost e, leb-true (m .case .shear) shearMost f)
-    go true true false e f = omega (arith, leb-true t totalMost e)
-    go true false w e f = l
-    go false b w e f = l
+suffice-is c rows w t z e q = q ∙ rw e
 
 -- ---- all the totals
 abbrev pub weighed : ℕ → List Member → ℕ
 weighed j ms = 20 * damaged 1 (drop j ms) + 28 * damaged 2 (drop j ms) + 35 * damaged 3 (drop j ms) + 140 * damaged 4 (drop j ms)
 
-pub record Going (k : ℕ) (met : Bool) (rows : List Member) (t : Tally) (j : ℕ) : Type 0 where
+pub record Going (k : ℕ) (met : Bool) (c : ℕ) (rows : List Member) (t : Tally) (j : ℕ) : Type 0 where
   pub within : j ≤ length rows
   pub count : t .members ≡ j
   pub axial : t .«axial_total» + axialTotal (drop j rows) ≡ axialTotal rows
-  pub shears : t .«over_shear» + overShear publishedRules k met (drop j rows) ≡ overShear publishedRules k met rows
-  pub anyone : (t .some || someOver publishedRules k met (drop j rows)) ≡ someOver publishedRules k met rows
+  pub shears : t .«over_shear» + overShear publishedRules k met c (drop j rows) ≡ overShear publishedRules k met c rows
+  pub anyone : (t .some || someOver publishedRules k met c (drop j rows)) ≡ someOver publishedRules k met c rows
   pub damage : t .damage + weighed j rows ≡ weighed 0 rows
   pub axial-most : t .«axial_total» ≤ ratioCap * j
   pub over-most : t .«over_shear» ≤ 9_999_999 * j
   pub damage-most : t .damage ≤ 140 * j
 
-tally-is : (t : Tally) (n a b d : ℕ) (c : Bool) → t .members ≡ n → t .«axial_total» ≡ a → t .«over_shear» ≡ b → t .some ≡ c → t .damage ≡ d → t ≡ record { members = n; «axial_total» = a; «over_shear» = b; some = c; damage = d }
-tally-is t n a b d c m e f g h = rw (← m, ← e, ← f, ← g, ← h)
+tally-is : (t : Tally) (n a b d : ℕ) (o : Bool) → t .members ≡ n → t .«axial_total» ≡ a → t .«over_shear» ≡ b → t .some ≡ o → t .damage ≡ d → t ≡ record { members = n; «axial_total» = a; «over_shear» = b; some = o; damage = d }
+tally-is t n a b d o m e f g h = rw (← m, ← e, ← f, ← g, ← h)
 
-module _ (k : ℕ) (met : Bool) (rows : List Member) where
-  pub going-none : Going k met rows noTally 0
+module _ (k : ℕ) (met : Bool) (c : ℕ) (rows : List Member) where
+  pub going-none : Going k met c rows noTally 0
   going-none =
       record {
         within = omega arith;
@@ -113,12 +114,12 @@ module _ (k : ℕ) (met : Bool) (rows : List Member) where
         damage-most = omega arith;
       }
 
-  module _ (g : Rows rows) (t : Tally) (j : ℕ) (u : Going k met rows t j) (h : j < length rows) where
-    pub tally-room : knowledge k ≡ true → AddsUp t k (memberIn rows j)
+  module _ (form : ℕ) (i : c < caseCount form) (g : Rows form rows) (t : Tally) (j : ℕ) (u : Going k met c rows t j) (h : j < length rows) where
+    pub tally-room : knowledge k ≡ true → AddsUp t k (inCase c (memberIn rows j))
     tally-room l =
         record {
           knowledge-level = l;
-          good = row-good rows g j h;
+          good = row-good form c i rows g j h;
           fewer = omega (arith, u .count, h, g .most);
           axial-total = omega (arith, u .axial-most, g .most);
           over-shear = omega (arith, u .over-most, g .most);
@@ -133,19 +134,19 @@ module _ (k : ℕ) (met : Bool) (rows : List Member) where
     weight-most (suc (suc (suc (suc zero)))) l = omega arith
     weight-most (suc (suc (suc (suc (suc d))))) l = let z : ⊥ = omega arith in absurd z
 
-    next-axial : (t .«axial_total» + axialRatioD (inCase (memberIn rows j)) .0) + axialTotal (drop (j + 1) rows) ≡ axialTotal rows
+    next-axial : (t .«axial_total» + memberAxial (memberIn rows j)) + axialTotal (drop (j + 1) rows) ≡ axialTotal rows
     unfolding axialTotal
-    next-axial = omega (arith, u .axial, total-drop (λ m. axialRatioD (inCase m) .0) noMember rows j h)
+    next-axial = omega (arith, u .axial, total-drop memberAxial noMember rows j h)
 
-    next-shears : (t .«over_shear» + shearIfOver publishedRules k met (memberIn rows j)) + overShear publishedRules k met (drop (j + 1) rows) ≡ overShear publishedRules k met rows
+    next-shears : (t .«over_shear» + shearIfOver publishedRules k met c (memberIn rows j)) + overShear publishedRules k met c (drop (j + 1) rows) ≡ overShear publishedRules k met c rows
     unfolding overShear
-    next-shears = omega (arith, u .shears, total-drop (shearIfOver publishedRules k met) noMember rows j h)
+    next-shears = omega (arith, u .shears, total-drop (shearIfOver publishedRules k met c) noMember rows j h)
 
-    next-anyone : ((t .some || over publishedRules k met (memberIn rows j)) || someOver publishedRules k met (drop (j + 1) rows)) ≡ someOver publishedRules k met rows
+    next-anyone : ((t .some || over publishedRules k met c (memberIn rows j)) || someOver publishedRules k met c (drop (j + 1) rows)) ≡ someOver publishedRules k met c rows
     unfolding someOver
     next-anyone =
-        or-assoc (t .some) (over publishedRules k met (memberIn rows j)) (anyOf (over publishedRules k met) (drop (j + 1) rows))
-        ∙ ap (λ (b : Bool). t .some || b) (sym (some-drop (over publishedRules k met) noMember rows j h))
+        or-assoc (t .some) (over publishedRules k met c (memberIn rows j)) (anyOf (over publishedRules k met c) (drop (j + 1) rows))
+        ∙ ap (λ (b : Bool). t .some || b) (sym (some-drop (over publishedRules k met c) noMember rows j h))
         ∙ u .anyone
 
     kinds : (kind : ℕ) → damaged kind (drop j rows) ≡ flag (eqb (memberIn rows j .damage) kind) + damaged kind (drop (j + 1) rows)
@@ -155,8 +156,8 @@ module _ (k : ℕ) (met : Bool) (rows : List Member) where
     next-damage : (t .damage + weightOf (memberIn rows j .damage)) + weighed (j + 1) rows ≡ weighed 0 rows
     next-damage = omega (arith, u .damage, kinds 1, kinds 2, kinds 3, kinds 4)
 
-    pub going-next : (r : Tally) → r ≡ added t k met (memberIn rows j) → Going k met rows r (j + 1)
-    unfolding added
+    pub going-next : (r : Tally) → r ≡ withMember t k met (inCase c (memberIn rows j)) → Going k met c rows r (j + 1)
+    unfolding withMember
     going-next r e =
         rw e
         (record {
@@ -166,18 +167,18 @@ module _ (k : ℕ) (met : Bool) (rows : List Member) where
           shears = next-shears;
           anyone = next-anyone;
           damage = next-damage;
-          axial-most = omega (arith, u .axial-most, nd-most (memberIn rows j));
-          over-most = omega (arith, u .over-most, pick-most (over publishedRules k met (memberIn rows j)) (memberIn rows j .case .shear) 9_999_999 (row-valid rows g j h .shear));
-          damage-most = omega (arith, u .damage-most, weight-most (memberIn rows j .damage) (row-valid rows g j h .damage));
+          axial-most = omega (arith, u .axial-most, nd-most (inCase c (memberIn rows j)));
+          over-most = omega (arith, u .over-most, pick-most (over publishedRules k met c (memberIn rows j)) (caseOf c (memberIn rows j) .shear) 9_999_999 (row-valid form c i rows g j h .shear));
+          damage-most = omega (arith, u .damage-most, weight-most (memberIn rows j .damage) (row-valid form c i rows g j h .damage));
         })
 
-  pub going-all : (t : Tally) (j : ℕ) → Going k met rows t j → length rows ≤ j → t ≡ tallyOf k met rows
+  pub going-all : (t : Tally) (j : ℕ) → Going k met c rows t j → length rows ≤ j → t ≡ tallyOf k met c rows
   unfolding tallyOf axialTotal overShear someOver damaged
   going-all t j u h =
       let n : t .members ≡ length rows = omega (arith, u .count, u .within) in
-      let a : t .«axial_total» ≡ axialTotal rows = omega (arith, u .axial, total-end (λ m. axialRatioD (inCase m) .0) noMember rows j h) in
-      let b : t .«over_shear» ≡ overShear publishedRules k met rows = omega (arith, u .shears, total-end (shearIfOver publishedRules k met) noMember rows j h) in
-      let c : t .some ≡ someOver publishedRules k met rows = sym (or-false (t .some)) ∙ ap (λ (x : Bool). t .some || x) (sym (some-end (over publishedRules k met) rows j h)) ∙ u .anyone in
+      let a : t .«axial_total» ≡ axialTotal rows = omega (arith, u .axial, total-end memberAxial noMember rows j h) in
+      let b : t .«over_shear» ≡ overShear publishedRules k met c rows = omega (arith, u .shears, total-end (shearIfOver publishedRules k met c) noMember rows j h) in
+      let o : t .some ≡ someOver publishedRules k met c rows = sym (or-false (t .some)) ∙ ap (λ (x : Bool). t .some || x) (sym (some-end (over publishedRules k met c) rows j h)) ∙ u .anyone in
       let d : t .damage ≡ weighed 0 rows =
       omega (arith, u .damage, total-end (λ m. flag (eqb (m .damage) 1)) noMember rows j h, total-end (λ m. flag (eqb (m .damage) 2)) noMember rows j h, total-end (λ m. flag (eqb (m .damage) 3)) noMember rows j h, total-end (λ m. flag (eqb (m .damage) 4)) noMember rows j h) in
-      tally-is t _ _ _ _ _ n a b c d
+      tally-is t _ _ _ _ _ n a b o d

@@ -6,8 +6,8 @@ use Rattle.storeys.specs.Storey.{Rules, storeyRisky}
 use Rattle.storeys.specs.declared.BuildingAnswer.{BuildingAnswer, the-variants.Judged, the-variants.Refused}
 
 -- storey i is Risky
-unfoldable pub riskyAt : Rules → ℕ → List Storey → List Member → ℕ → Bool
-riskyAt rules k ss ms i = storeyRisky rules k (storeyIn ss i .shear) (membersOf ss ms i)
+unfoldable pub riskyAt : Rules → ℕ → ℕ → List Storey → List Member → ℕ → Bool
+riskyAt rules form k ss ms i = storeyRisky rules form k (storeyIn ss i) (membersOf ss ms i)
 
 -- "the larger tilt exceeds 25,000"
 abbrev pub tiltAllowed : ℕ
@@ -18,7 +18,7 @@ tilted h = ltb tiltAllowed (max (h .tilt1) (h .tilt2))
 
 -- some storey is Risky
 unfoldable pub someRisky : Rules → Survey → Bool
-someRisky rules a = anyBelow (riskyAt rules (a .header .knowledge) (a .storeys) (a .members)) (length (a .storeys))
+someRisky rules a = anyBelow (riskyAt rules (a .header .form) (a .header .knowledge) (a .storeys) (a .members)) (length (a .storeys))
 
 -- "A building is Risky when a storey is, or the larger tilt exceeds 25,000"
 unfoldable pub buildingRisky : Rules → Survey → Bool
@@ -32,7 +32,7 @@ buildingAnswerBy rules a place =
 -- "names a Risky storey's place, counted from 1. Which one is free where several are; 0 where none is"
 pub data PlaceOk (rules : Rules) (a : Survey) : ℕ → Type 0 where
   nowhere : someRisky rules a ≡ false → PlaceOk rules a 0
-  named : (i : ℕ) → i < length (a .storeys) → riskyAt rules (a .header .knowledge) (a .storeys) (a .members) i ≡ true → PlaceOk rules a (i + 1)
+  named : (i : ℕ) → i < length (a .storeys) → riskyAt rules (a .header .form) (a .header .knowledge) (a .storeys) (a .members) i ≡ true → PlaceOk rules a (i + 1)
 
 -- the place that an answer names; a refusal names none
 abbrev pub placeIn : BuildingAnswer → ℕ

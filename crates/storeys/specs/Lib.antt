@@ -1,6 +1,6 @@
 pub mod Storey
 pub mod Building
-pub mod Totals
 pub mod Tally
 pub mod Verdict
 pub mod Shears
+pub mod Cases

@@ -6,7 +6,7 @@ ghost use Rattle.storeys.specs.Storey.{publishedRules};
 ghost use Rattle.storeys.specs.Building.{Answers};
 ghost use Rattle.storeys.specs.Verdict.{verdictOf, GoodRows};
 use crate::BuildingJudgment;
-use crate::storey::found;
+use crate::storey::found_risky;
 use crate::verdict::Verdict;
 use crate::verdict::judged_building;
 use crate::verdict::level_of;
@@ -18,11 +18,12 @@ use records::Header;
 use records::Member;
 use records::Storey;
 use records::numbers::count_of;
+use records::numbers::form_of;
 
-// What is found of good storeys, k being the knowledge level.
-fn storeys_verdict(k: u64, storeys: &[Storey], members: &[Member]) -> Verdict
-    requires { ⌜ GoodRows k (now storeys) (now members) ⌝ }
-    ensures { λ r. ⌜ r ≡ verdictOf k (now (storeys .entry)) (now (members .entry)) (length (now (storeys .entry))) ⌝ }
+// What is found of good storeys of a form, k being the knowledge level.
+fn storeys_verdict(form: u64, k: u64, storeys: &[Storey], members: &[Member]) -> Verdict
+    requires { ⌜ GoodRows form k (now storeys) (now members) ⌝ }
+    ensures { λ r. ⌜ r ≡ verdictOf form k (now (storeys .entry)) (now (members .entry)) (length (now (storeys .entry))) ⌝ }
 {
     let mut v = no_verdict();
     let mut before = 0;
@@ -30,9 +31,9 @@ fn storeys_verdict(k: u64, storeys: &[Storey], members: &[Member]) -> Verdict
     while i < storeys.len() {
         let s = storeys[i];
         let end = before + count_of(s);
-        let f = found(k, s, &members[before..end]);
+        let risky = found_risky(form, k, s, &members[before..end]);
         let place = i + 1;
-        v = noted(v, place, f);
+        v = noted(v, place, risky);
         before = end;
         i = place;
     }
@@ -47,5 +48,8 @@ pub fn judge_building(h: Header, storeys: &[Storey], members: &[Member]) -> Buil
     if fault != 0 {
         return refused_building(fault);
     }
-    judged_building(h, storeys_verdict(level_of(h), storeys, members))
+    judged_building(
+        h,
+        storeys_verdict(form_of(h), level_of(h), storeys, members),
+    )
 }

@@ -5,24 +5,21 @@ pub mod row;
 pub mod storey;
 pub mod verdict;
 
-// What a storey is found to be.
-pub struct StoreyFinding {
-    // Σ, the total of n_D
-    pub axial_total: u64,
-    // c, how many members it has
-    pub members: u64,
-    // P, the total of V over the members that are over
-    pub over_shear: u64,
-    // W, the storey shear
-    pub shear: u64,
+use totals::StoreyFinding;
+
+// In each of four load cases; Risky where it is in some case.
+pub struct StoreyFindings {
     pub risky: bool,
-    // its walls carry at least 0.40 of the storey shear
-    pub walls_suffice: bool,
+    pub case1: StoreyFinding,
+    pub case2: StoreyFinding,
+    pub case3: StoreyFinding,
+    pub case4: StoreyFinding,
 }
 
-// The finding, or the refusal by its number.
+// The finding of a storey of the old form, the findings of one in four cases, or the refusal by its number.
 pub enum StoreyAnswer {
     Judged(StoreyFinding),
+    JudgedCases(StoreyFindings),
     Refused(u64),
 }
 

@@ -7,7 +7,6 @@ ghost use Rattle.storeys.specs.Verdict.{noVerdict, notedBy, verdictAnswe
 use crate::BuildingAnswer;
 use crate::BuildingFinding;
 use crate::BuildingJudgment;
-use crate::StoreyFinding;
 use records::Header;
 use records::first::earlier;
 
@@ -27,21 +26,21 @@ pub(crate) fn no_verdict() -> Verdict
 }
 
 // The place of a Risky storey, and of another 0.
-fn place_if_risky(f: StoreyFinding, place: usize) -> u64
-    ensures { λ r. ⌜ r ≡ pick (f .risky) place 0 ⌝ }
+fn place_if_risky(risky: bool, place: usize) -> u64
+    ensures { λ r. ⌜ r ≡ pick risky place 0 ⌝ }
 {
-    if f.risky {
+    if risky {
         return place as u64;
     }
     0
 }
 
 // With one storey more, at its place.
-pub(crate) fn noted(v: Verdict, place: usize, f: StoreyFinding) -> Verdict
-    ensures { λ r. ⌜ r ≡ notedBy v place f ⌝ }
+pub(crate) fn noted(v: Verdict, place: usize, risky: bool) -> Verdict
+    ensures { λ r. ⌜ r ≡ notedBy v place risky ⌝ }
 {
     Verdict {
-        place: earlier(v.place, place_if_risky(f, place)),
+        place: earlier(v.place, place_if_risky(risky, place)),
     }
 }
 

@@ -11,9 +11,8 @@ use borrow.Kind.Num.{pNum}
 use borrow.Kind.ShrSlice.{pShrS}
 use borrow.Kind.MutSlice.{pMutS}
 use borrow.Table.Referent.{rtF, fInt}
-use Rattle.records.specs.Records.{surveyOf}
-use Rattle.records.specs.declared.Tag.the-variants as tag
-use Rattle.format.specs.Lines.{lineSize}
+use Rattle.records.specs.Records.{surveyOf, storeyKind}
+use Rattle.format.specs.Lines.{lineSize, memberSize}
 use Rattle.checks.specs.RowChecks.{Counted}
 use Rattle.walk.proofs.Fn.{Plain}
 use Rattle.walk.proofs.Slice.{R, taken, made}
@@ -26,34 +25,34 @@ use Rattle.writing.proofs.Structs.{writing}
 abbrev pub bytes : RattleType
 bytes = rtF (fInt w8)
 
-abbrev pub put-members : Plain {n = 2} (pMutS bytes 0 tt ∷ pNum w64 ∷ pShrS (R member) 1 tt ∷ []) (rNum w64)
+abbrev pub put-members : Plain {n = 2} (pMutS bytes 0 tt ∷ pNum w64 ∷ pNum w64 ∷ pShrS (R member) 1 tt ∷ []) (rNum w64)
 put-members = record {
-  requires = λ κs a. (a .1 .0 + lineSize tag.M * length (a .1 .1 .0 .now) ≤ length (a .0 .now)) ∷ [];
+  requires = λ κs a. (a .1 .0 + memberSize (a .1 .1 .0) * length (a .1 .1 .1 .0 .now) ≤ length (a .0 .now)) ∷ [];
   ensures = λ κs a z e.
-      (z ≡ a .1 .0 + lineSize tag.M * length (a .1 .1 .0 .now))
-      ∷ (e .0 .now ≡ stamped (a .0 .now) (a .1 .0) (membersText (a .1 .1 .0 .now)))
+      (z ≡ a .1 .0 + memberSize (a .1 .1 .0) * length (a .1 .1 .1 .0 .now))
+      ∷ (e .0 .now ≡ stamped (a .0 .now) (a .1 .0) (membersText (a .1 .1 .0) (a .1 .1 .1 .0 .now)))
       ∷ [];
 }
 
-abbrev pub put-storey-lines : Plain {n = 2} (pMutS bytes 0 tt ∷ pNum w64 ∷ taken storey ∷ pShrS (R member) 1 tt ∷ []) (rNum w64)
+abbrev pub put-storey-lines : Plain {n = 2} (pMutS bytes 0 tt ∷ pNum w64 ∷ pNum w64 ∷ taken storey ∷ pShrS (R member) 1 tt ∷ []) (rNum w64)
 put-storey-lines = record {
-  requires = λ κs a. (a .1 .0 + (lineSize tag.S + lineSize tag.M * length (a .1 .1 .1 .0 .now)) ≤ length (a .0 .now)) ∷ [];
+  requires = λ κs a. (a .1 .0 + (lineSize (storeyKind (a .1 .1 .0)) + memberSize (a .1 .1 .0) * length (a .1 .1 .1 .1 .0 .now)) ≤ length (a .0 .now)) ∷ [];
   ensures = λ κs a z e.
-      (z ≡ a .1 .0 + (lineSize tag.S + lineSize tag.M * length (a .1 .1 .1 .0 .now)))
-      ∷ (e .0 .now ≡ stamped (a .0 .now) (a .1 .0) (storeyText (a .1 .1 .0) (a .1 .1 .1 .0 .now)))
+      (z ≡ a .1 .0 + (lineSize (storeyKind (a .1 .1 .0)) + memberSize (a .1 .1 .0) * length (a .1 .1 .1 .1 .0 .now)))
+      ∷ (e .0 .now ≡ stamped (a .0 .now) (a .1 .0) (storeyText (a .1 .1 .0) (a .1 .1 .1 .0) (a .1 .1 .1 .1 .0 .now)))
       ∷ [];
 }
 
-abbrev pub put-storeys : Plain {n = 3} (pMutS bytes 0 tt ∷ pNum w64 ∷ pShrS (R storey) 1 tt ∷ pShrS (R member) 2 tt ∷ []) (rNum w64)
+abbrev pub put-storeys : Plain {n = 3} (pMutS bytes 0 tt ∷ pNum w64 ∷ pNum w64 ∷ pShrS (R storey) 1 tt ∷ pShrS (R member) 2 tt ∷ []) (rNum w64)
 put-storeys = record {
   requires = λ κs a.
-      (Counted (a .1 .1 .0 .now) (a .1 .1 .1 .0 .now)
-      × (length (a .1 .1 .1 .0 .now) ≤ 2_000)
-      × (a .1 .0 + (lineSize tag.S * length (a .1 .1 .0 .now) + lineSize tag.M * length (a .1 .1 .1 .0 .now)) ≤ length (a .0 .now)))
+      (Counted (a .1 .1 .1 .0 .now) (a .1 .1 .1 .1 .0 .now)
+      × (length (a .1 .1 .1 .1 .0 .now) ≤ 2_000)
+      × (a .1 .0 + (lineSize (storeyKind (a .1 .1 .0)) * length (a .1 .1 .1 .0 .now) + memberSize (a .1 .1 .0) * length (a .1 .1 .1 .1 .0 .now)) ≤ length (a .0 .now)))
       ∷ [];
   ensures = λ κs a z e.
-      (z ≡ a .1 .0 + (lineSize tag.S * length (a .1 .1 .0 .now) + lineSize tag.M * length (a .1 .1 .1 .0 .now)))
-      ∷ (e .0 .now ≡ stamped (a .0 .now) (a .1 .0) (storeysText (a .1 .1 .0 .now) (a .1 .1 .1 .0 .now)))
+      (z ≡ a .1 .0 + (lineSize (storeyKind (a .1 .1 .0)) * length (a .1 .1 .1 .0 .now) + memberSize (a .1 .1 .0) * length (a .1 .1 .1 .1 .0 .now)))
+      ∷ (e .0 .now ≡ stamped (a .0 .now) (a .1 .0) (storeysText (a .1 .1 .0) (a .1 .1 .1 .0 .now) (a .1 .1 .1 .1 .0 .now)))
       ∷ [];
 }
 

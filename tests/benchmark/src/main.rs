@@ -2,7 +2,9 @@
 //! cost grows with the survey.
 use benchmark::measure::{instructions, run, seconds, valgrind_is_there, RUN};
 use benchmark::stages::{check_all, Stage, PARTS, STAGES};
-use benchmark::surveys::{growth, GROWTH, SIZES};
+use benchmark::surveys::{growth, sizes, BOTH, FORMS, GROWTH};
+use generator::bytes_of;
+use independent::lines::cases_of;
 
 const ABOUT: &str = "\
 The proved code (the static library) and the independent program (cargo's release profile) on the same surveys, on which both give the
@@ -33,31 +35,51 @@ fn measure() {
     }
     compare(counted);
     println!();
+    compare_forms(counted);
+    println!();
     grow(counted);
 }
 
-/// Each stage on surveys of 10, 100 and 311 members.
+/// Each stage on surveys of both forms.
 fn compare(counted: bool) {
-    println!("        |        | instructions of one call          | microseconds of one call");
-    println!("members | stage  |      proved  independent    ratio |      proved  independent    ratio");
-    for sizes in SIZES {
+    println!("      |         |        | instructions of one call          | microseconds of one call");
+    println!("cases | members | stage  |      proved  independent    ratio |      proved  independent    ratio");
+    for (form, sizes) in FORMS.into_iter().flat_map(|form| sizes(form).map(|sizes| (form, sizes))) {
         for stage in STAGES {
-            let cost = Cost::of(sizes, stage, counted);
+            let cost = Cost::of(form, sizes, stage, counted);
             let counts = cost.instructions.map_or_else(not_counted, |counts| ratio(counts, 0));
-            println!("{:7} | {:6} | {counts:33} | {}", sizes.iter().sum::<u64>(), name(stage), ratio(cost.seconds.map(|s| s * 1e6), 2));
+            let times = ratio(cost.seconds.map(|s| s * 1e6), 2);
+            println!("{:5} | {:7} | {:6} | {counts:33} | {times}", cases_of(form), sizes.iter().sum::<u64>(), name(stage));
+        }
+    }
+}
+
+/// What a survey in four cases costs the proved code against one of the old form with as many members: a call, and each byte of its file.
+fn compare_forms(counted: bool) {
+    println!("        |        | four cases / old form  | instructions for each byte of the file");
+    println!("members | stage  | instructions      time |      old form   four cases");
+    for sizes in BOTH {
+        let members: u64 = sizes.iter().sum();
+        let bytes = FORMS.map(|form| bytes_of(form, sizes.len(), members as usize) as f64);
+        for stage in STAGES {
+            let [old, cases] = FORMS.map(|form| Cost::of(form, sizes, stage, counted));
+            let counts = old.instructions.zip(cases.instructions).map(|(old, cases)| (old[0], cases[0]));
+            let instructions = counts.map_or_else(not_counted, |(old, cases)| format!("{:.2}", cases / old));
+            let each = counts.map_or_else(not_counted, |(old, cases)| format!("{:13.1} {:12.1}", old / bytes[0], cases / bytes[1]));
+            println!("{members:7} | {:6} | {instructions:>12} {:9.2} | {each}", name(stage), cases.seconds[0] / old.seconds[0]);
         }
     }
 }
 
 /// Each stage on more and more storeys of 200 members. Their files are too long for the whole way.
 fn grow(counted: bool) {
-    println!("storeys |        | instructions of the proved code  | time of the proved code");
-    println!(" of 200 | stage  |  / one storey's  / independent's |  / one storey's  / independent's");
-    for stage in PARTS {
-        let costs = GROWTH.map(|storeys| Cost::of(&growth(storeys), stage, counted));
+    println!("      | storeys |        | instructions of the proved code  | time of the proved code");
+    println!("cases |  of 200 | stage  |  / one storey's  / independent's |  / one storey's  / independent's");
+    for (form, stage) in FORMS.into_iter().flat_map(|form| PARTS.map(|stage| (form, stage))) {
+        let costs = GROWTH.map(|storeys| Cost::of(form, &growth(storeys), stage, counted));
         for (storeys, cost) in GROWTH.iter().zip(&costs) {
             let counts = cost.instructions.zip(costs[0].instructions).map_or_else(not_counted, |(these, one)| ratios(these, one));
-            println!("{storeys:7} | {:6} | {counts:32} | {}", name(stage), ratios(cost.seconds, costs[0].seconds));
+            println!("{:5} | {storeys:7} | {:6} | {counts:32} | {}", cases_of(form), name(stage), ratios(cost.seconds, costs[0].seconds));
         }
     }
 }
@@ -73,8 +95,8 @@ struct Cost {
 }
 
 impl Cost {
-    fn of(sizes: &[u64], stage: Stage, counted: bool) -> Cost {
-        Cost { instructions: counted.then(|| instructions(sizes, stage)), seconds: seconds(sizes, stage) }
+    fn of(form: u64, sizes: &[u64], stage: Stage, counted: bool) -> Cost {
+        Cost { instructions: counted.then(|| instructions(form, sizes, stage)), seconds: seconds(form, sizes, stage) }
     }
 }
 

@@ -1,9 +1,9 @@
 //! One stage of the way from a file to its sheet, by either program, on one survey.
 use crate::records::{header_row, member_row, storey_row};
-use crate::surveys::{growth, survey, GROWTH, SIZES};
-use generator::write_survey;
+use crate::surveys::{growth, sizes, survey, FORMS, GROWTH};
+use generator::{file_len, sheet_len, write_survey};
 use independent::Survey;
-use llunareth::raw;
+use llunareth::{raw, HEADER_NUMBERS, MEMBER_NUMBERS, STOREY_NUMBERS};
 use std::hint::black_box;
 
 /// Rows lent for reading: those of the largest survey that is accepted.
@@ -41,32 +41,32 @@ pub const PARTS: [Stage; 4] = [Stage::Read, Stage::Judge, Stage::Report, Stage::
 pub struct Bench {
     pub survey: Survey,
     pub bytes: Vec<u8>,
-    header: [u64; 6],
+    header: [u64; HEADER_NUMBERS],
     storeys: Vec<llunareth::Storey>,
     members: Vec<llunareth::Member>,
     storey_rows: Vec<llunareth::Storey>,
     member_rows: Vec<llunareth::Member>,
     sheet: Vec<u8>,
     file: Vec<u8>,
-    out: [u64; 8],
+    out: [u64; raw::READ_VALUES],
     returned: u64,
     length: usize,
 }
 
 impl Bench {
-    /// The survey whose storeys have so many members each.
-    pub fn new(sizes: &[u64]) -> Bench {
-        let survey = survey(sizes);
+    /// The survey of a form whose storeys have so many members each.
+    pub fn new(form: u64, sizes: &[u64]) -> Bench {
+        let survey = survey(form, sizes);
         Bench {
             bytes: write_survey(&survey),
             header: header_row(&survey.header),
             storeys: survey.storeys.iter().map(storey_row).collect(),
             members: survey.members.iter().map(member_row).collect(),
-            storey_rows: vec![[1; 3].into(); STOREY_ROWS],
-            member_rows: vec![[1; 26].into(); MEMBER_ROWS],
-            sheet: vec![1; 86 * survey.members.len() + 74 * survey.storeys.len() + 26],
-            file: vec![1; 50 + 26 * survey.storeys.len() + 210 * survey.members.len()],
-            out: [1; 8],
+            storey_rows: vec![[1; STOREY_NUMBERS].into(); STOREY_ROWS],
+            member_rows: vec![[1; MEMBER_NUMBERS].into(); MEMBER_ROWS],
+            sheet: vec![1; sheet_len(&survey)],
+            file: vec![1; file_len(&survey)],
+            out: [1; raw::READ_VALUES],
             returned: 1,
             length: 0,
             survey,
@@ -119,20 +119,21 @@ impl Bench {
 
     /// Takes away what an earlier call put into the lent memory.
     fn clear(&mut self) {
-        self.storey_rows.fill([1; 3].into());
-        self.member_rows.fill([1; 26].into());
+        self.storey_rows.fill([1; STOREY_NUMBERS].into());
+        self.member_rows.fill([1; MEMBER_NUMBERS].into());
         self.sheet.fill(1);
         self.file.fill(1);
-        self.out = [1; 8];
+        self.out = [1; raw::READ_VALUES];
         self.returned = 1;
         self.length = 0;
     }
 
     fn check_read(&self) {
-        let (storeys, members) = (self.out[6] as usize, self.out[7] as usize);
+        let (header, filled) = self.out.split_at(HEADER_NUMBERS);
+        let (storeys, members) = (filled[0] as usize, filled[1] as usize);
         assert_eq!(independent::read(&self.bytes, STOREY_ROWS, MEMBER_ROWS).as_ref(), Ok(&self.survey));
         assert_eq!(self.returned, 0, "accepted");
-        assert_eq!(self.out[..6], self.header);
+        assert_eq!(header, self.header);
         assert_eq!(self.storey_rows[..storeys], self.storeys);
         assert_eq!(self.member_rows[..members], self.members);
     }
@@ -169,12 +170,14 @@ impl Bench {
 
 /// Panics unless both programs give the same answers on every survey that is measured.
 pub fn check_all() {
-    for sizes in SIZES {
-        let mut bench = Bench::new(sizes);
-        STAGES.into_iter().for_each(|stage| bench.check(stage));
-    }
-    for storeys in GROWTH {
-        let mut bench = Bench::new(&growth(storeys));
-        PARTS.into_iter().for_each(|stage| bench.check(stage));
+    for form in FORMS {
+        for sizes in sizes(form) {
+            let mut bench = Bench::new(form, sizes);
+            STAGES.into_iter().for_each(|stage| bench.check(stage));
+        }
+        for storeys in GROWTH {
+            let mut bench = Bench::new(form, &growth(storeys));
+            PARTS.into_iter().for_each(|stage| bench.check(stage));
+        }
     }
 }

@@ -1,19 +1,26 @@
 //! The surveys of the benchmark: both programs agree on them, and they hold what is to be measured.
 use benchmark::stages::{check_all, Bench};
-use benchmark::surveys::{survey, SIZES};
+use benchmark::surveys::{sizes, survey, FORMS};
+use generator::{bytes_of, INPUT_MOST};
 use independent::{judge_member, judge_storey, MemberFinding, Survey};
 
 /// The limits of m that stand at rows of the tables.
 const AT_ROWS: [u64; 10] = [100_000, 125_000, 150_000, 250_000, 300_000, 400_000, 450_000, 500_000, 600_000, 700_000];
 
-fn findings(s: &Survey) -> Vec<MemberFinding> {
-    let k = s.header.knowledge;
-    let mut found = Vec::new();
+/// What is found of the members in each case of a survey's form.
+fn findings(s: &Survey) -> Vec<Vec<MemberFinding>> {
+    let (k, form) = (s.header.knowledge, s.header.form);
+    let mut found: Vec<Vec<MemberFinding>> = Vec::new();
     let mut rest = &s.members[..];
     for storey in &s.storeys {
-        let (own, later) = rest.split_at(storey.member_count as usize);
-        let met = judge_storey(k, storey, own).expect("a good storey").meets_wall_share;
-        found.extend(own.iter().map(|m| judge_member(k, met, m).expect("a good member")));
+        let (own, later) = rest.split_at(storey.count as usize);
+        let cases = judge_storey(k, form, storey, own).expect("a good storey").cases;
+        let met = std::array::from_fn(|i| cases.get(i).is_some_and(|case| case.meets_wall_share));
+        found.resize(cases.len(), Vec::new());
+        for m in own {
+            let of_member = judge_member(k, form, met, m).expect("a good member");
+            found.iter_mut().zip(of_member).for_each(|(of_case, f)| of_case.push(f));
+        }
         rest = later;
     }
     found
@@ -31,23 +38,27 @@ fn both_programs_agree() {
 
 #[test]
 fn members_and_storeys() {
-    assert_eq!(SIZES.map(|sizes| survey(sizes).members.len()), [10, 100, 311]);
-    for sizes in SIZES {
-        assert!(sizes.len() <= 10 && sizes.iter().all(|&count| count <= 200));
+    for (form, members) in FORMS.into_iter().zip([[10, 100, 311], [10, 100, 147]]) {
+        assert_eq!(sizes(form).map(|sizes| survey(form, sizes).members.len()), members);
+        for sizes in sizes(form) {
+            assert!(sizes.len() <= 10 && sizes.iter().all(|&count| count <= 200));
+        }
+        let [.., most] = sizes(form);
+        let bytes = Bench::new(form, most).bytes.len();
+        assert!(bytes <= INPUT_MOST && INPUT_MOST < bytes_of(form, most.len(), members[2] + 1), "{bytes} bytes");
     }
-    // 312 members need two storeys.
-    assert!(Bench::new(SIZES[2]).bytes.len() <= 65_536 && 65_536 < 50 + 2 * 26 + 312 * 210);
 }
 
 #[test]
 fn classes_limits_and_members_over() {
-    for s in SIZES.map(survey) {
-        let found = findings(&s);
-        for class in 1..=5 {
-            assert!(found.iter().any(|f| f.class == class), "class {class} among {}", found.len());
+    for s in FORMS.into_iter().flat_map(|form| sizes(form).map(|sizes| survey(form, sizes))) {
+        for found in findings(&s) {
+            for class in 1..=5 {
+                assert!(found.iter().any(|f| f.class == class), "class {class} among {}", found.len());
+            }
+            let (over, between) = (found.iter().filter(|f| f.over).count(), found.iter().filter(|f| between_rows(f)).count());
+            assert!(over > 0 && over < found.len(), "{over} over of {}", found.len());
+            assert!(2 * between > found.len(), "{between} limits between rows of {}", found.len());
         }
-        let (over, between) = (found.iter().filter(|f| f.over).count(), found.iter().filter(|f| between_rows(f)).count());
-        assert!(over > 0 && over < found.len(), "{over} over of {}", found.len());
-        assert!(2 * between > found.len(), "{between} limits between rows of {}", found.len());
     }
 }

@@ -10,7 +10,7 @@
 
 #include "llunareth.h"
 
-enum { STACK = 1 << 20, FILLED = 0xa5, STOREYS = 10, MEMBERS = 2000, FILE_ROOM = 500000, TEXT_ROOM = 200000 };
+enum { STACK = 1 << 20, FILLED = 0xa5, STOREYS = 10, MEMBERS = 2000, FILE_ROOM = 900000, TEXT_ROOM = 900000 };
 
 static unsigned char stack[STACK];
 static ucontext_t caller, callee;
@@ -22,7 +22,7 @@ static uint8_t file[FILE_ROOM], text[TEXT_ROOM];
 static size_t file_len, read_storeys, read_members;
 static struct llunareth_storey storeys[STOREYS];
 static struct llunareth_member members[MEMBERS];
-static uint64_t header[LLUNARETH_READ_VALUES], out[LLUNARETH_READ_VALUES];
+static uint64_t header[LLUNARETH_READ_VALUES], out[LLUNARETH_STOREY_VALUES];
 
 static void read_file(void)
 {
@@ -36,24 +36,24 @@ static void check_header(void)
 
 static void check_storey(void)
 {
-    refused = llunareth_storey_fault((const uint64_t *)&storeys[0], LLUNARETH_STOREY_NUMBERS);
+    refused = llunareth_storey_fault(header[LLUNARETH_READ_FORM], (const uint64_t *)&storeys[0], LLUNARETH_STOREY_NUMBERS);
 }
 
 static void check_member(void)
 {
-    refused = llunareth_member_fault((const uint64_t *)&members[0], LLUNARETH_MEMBER_NUMBERS);
+    refused = llunareth_member_fault(header[LLUNARETH_READ_FORM], (const uint64_t *)&members[0], LLUNARETH_MEMBER_NUMBERS);
 }
 
 static void judge_member(void)
 {
-    refused = llunareth_judge_member(header[LLUNARETH_READ_KNOWLEDGE], true, (const uint64_t *)&members[0], LLUNARETH_MEMBER_NUMBERS, out,
-                                     LLUNARETH_MEMBER_VALUES);
+    refused = llunareth_judge_member(header[LLUNARETH_READ_KNOWLEDGE], header[LLUNARETH_READ_FORM], true, true, true, true,
+                                     (const uint64_t *)&members[0], LLUNARETH_MEMBER_NUMBERS, out, LLUNARETH_MEMBER_VALUES);
 }
 
 static void judge_storey(void)
 {
-    refused = llunareth_judge_storey(header[LLUNARETH_READ_KNOWLEDGE], (const uint64_t *)&storeys[0], LLUNARETH_STOREY_NUMBERS, members,
-                                     (size_t)storeys[0].count, out, LLUNARETH_STOREY_VALUES);
+    refused = llunareth_judge_storey(header[LLUNARETH_READ_KNOWLEDGE], header[LLUNARETH_READ_FORM], (const uint64_t *)&storeys[0],
+                                     LLUNARETH_STOREY_NUMBERS, members, (size_t)storeys[0].count, out, LLUNARETH_STOREY_VALUES);
 }
 
 static void judge_building(void)

@@ -2,53 +2,79 @@
 pub mod picture;
 pub mod samples;
 pub mod spectrum;
+pub mod surveys;
 
-use generator::{edge_member_for, Rng};
-use independent::{Header, Member, MemberFinding, Refusal, Storey, StoreyFinding, Survey};
-use llunareth::{raw, BuildingFinding};
+use generator::{edge_member_for, file_len, one_case, sheet_len, Rng};
+use independent::lines::{cases_of, CASES, CASE_FORM, LOAD_CASE, MEMBER, OLD_FORM};
+use independent::{Fraction, Header, LoadCase, Member, Refusal, Storey, Survey};
+use llunareth::{raw, BuildingFinding, MemberFinding, StoreyCaseFinding, StoreyFinding};
+use llunareth::{HEADER_NUMBERS, MEMBER_NUMBERS, STOREY_NUMBERS};
 pub use llunareth::{Member as MemberRow, Storey as StoreyRow};
 
-const ZERO_FORCE: i128 = llunareth::ZERO_FORCE as i128;
+/// Both forms of a survey.
+pub const FORMS: [u64; 2] = [OLD_FORM, CASE_FORM];
+
+/// The refusals that reading knows, and those of a building's records.
+pub const FILE_REFUSALS: [usize; 9] = [1, 2, 3, 4, 5, 6, 7, 8, 12];
+pub const RECORD_REFUSALS: [usize; 5] = [1, 3, 4, 5, 7];
+
+/// One more than the largest refusal.
+pub const REFUSALS: usize = 13;
+
+// ---- records and their stored numbers ----
+
+/// What is added to a number of a member, counted from 0, to store it: N_D and the N_K of each case are counted from -20,000,000.
+fn member_shift(j: usize) -> i128 {
+    let is_force = j + 1 == MEMBER.len() || (j >= MEMBER.len() && (j - MEMBER.len()) % LOAD_CASE.len() == 0);
+    if is_force { llunareth::ZERO_FORCE.into() } else { 0 }
+}
 
 /// The stored numbers of a member; `None` where a force has none (below -20,000,000 or above what 64 bits hold).
-pub fn member_numbers(m: &Member) -> Option<[u64; 26]> {
-    let fields = m.fields();
-    let mut numbers = [0; 26];
-    for (j, &field) in fields.iter().enumerate() {
-        let shift = if j == 17 || j == 18 { ZERO_FORCE } else { 0 };
-        numbers[j] = u64::try_from(field + shift).ok()?;
-    }
-    Some(numbers)
+pub fn member_numbers(m: &Member) -> Option<[u64; MEMBER_NUMBERS]> {
+    let values = m.values().into_iter().chain(m.cases.iter().flat_map(LoadCase::values));
+    let stored: Option<Vec<u64>> = values.enumerate().map(|(j, value)| u64::try_from(value + member_shift(j)).ok()).collect();
+    Some(stored?.try_into().expect("so many numbers"))
 }
 
 /// The stored numbers of a header.
-pub fn header_numbers(h: &Header) -> [u64; 6] {
-    h.fields().map(|v| v as u64)
+pub fn header_numbers(h: &Header) -> [u64; HEADER_NUMBERS] {
+    let [k, height, storeys, tilt_1, tilt_2, count] = h.values().map(|v| v as u64);
+    [k, height, storeys, tilt_1, tilt_2, count, h.form]
 }
 
 /// The stored numbers of a storey.
-pub fn storey_numbers(s: &Storey) -> [u64; 3] {
-    s.fields().map(|v| v as u64)
+pub fn storey_numbers(s: &Storey) -> [u64; STOREY_NUMBERS] {
+    let [one, two, three, four] = s.shears;
+    [s.number, one, two, three, four, s.count]
 }
 
 /// The header of stored numbers.
-pub fn header_of(numbers: &[u64; 6]) -> Header {
-    Header::from_fields(&numbers.map(i128::from))
+pub fn header_of(numbers: &[u64; HEADER_NUMBERS]) -> Header {
+    Header::from_values(&numbers.map(i128::from), numbers[HEADER_NUMBERS - 1])
 }
 
 /// The storey of stored numbers.
-pub fn storey_of(numbers: &[u64; 3]) -> Storey {
-    Storey::from_fields(&numbers.map(i128::from))
+pub fn storey_of(numbers: &[u64; STOREY_NUMBERS]) -> Storey {
+    let [number, one, two, three, four, count] = *numbers;
+    Storey { number, shears: [one, two, three, four], count }
 }
 
 /// The member of stored numbers.
-pub fn member_of(numbers: &[u64; 26]) -> Member {
-    let mut fields = [0; 26];
-    for (j, &number) in numbers.iter().enumerate() {
-        let shift = if j == 17 || j == 18 { ZERO_FORCE } else { 0 };
-        fields[j] = i128::from(number) - shift;
-    }
-    Member::from_fields(&fields)
+pub fn member_of(numbers: &[u64; MEMBER_NUMBERS]) -> Member {
+    let values: Vec<i128> = numbers.iter().enumerate().map(|(j, &number)| i128::from(number) - member_shift(j)).collect();
+    let (once, cases) = values.split_at(MEMBER.len());
+    let case = |i: usize| LoadCase::from_values(&cases[LOAD_CASE.len() * i..]);
+    Member::from_values(once, std::array::from_fn(case))
+}
+
+/// The members as rows; `None` where a force has no stored number.
+pub fn member_rows(members: &[Member]) -> Option<Vec<MemberRow>> {
+    members.iter().map(|m| member_numbers(m).map(MemberRow::from)).collect()
+}
+
+/// The storeys as rows.
+pub fn storey_rows(storeys: &[Storey]) -> Vec<StoreyRow> {
+    storeys.iter().map(|s| StoreyRow::from(storey_numbers(s))).collect()
 }
 
 /// A refusal of the proved library as the independent program has it.
@@ -56,36 +82,66 @@ fn refusal(r: llunareth::Refusal) -> Refusal {
     Refusal::at(r.number.try_into().expect("the number of a refusal"), r.line)
 }
 
+// ---- what a call leaves ----
+
+/// How many numbers the `out` of a call must hold, and how many of them it puts there where it is accepted.
+#[derive(Clone, Copy)]
+pub struct Room {
+    must: usize,
+    put: usize,
+}
+
+impl From<usize> for Room {
+    fn from(values: usize) -> Room {
+        Room { must: values, put: values }
+    }
+}
+
+impl Room {
+    /// Of the call on a member of a form.
+    pub fn of_member(form: u64) -> Room {
+        Room { must: raw::MEMBER_VALUES, put: raw::FINDING_VALUES * cases_of(form) }
+    }
+
+    /// Of the call on a storey of a form.
+    pub fn of_storey(form: u64) -> Room {
+        Room { must: raw::STOREY_VALUES, put: 1 + raw::STOREY_CASE_VALUES * cases_of(form) }
+    }
+}
+
 /// What stands in an `out` before a call: numbers that no call puts out.
 pub fn marks(len: usize) -> Vec<u64> {
     (0..len as u64).map(|i| u64::MAX - i).collect()
 }
 
-/// Panics unless a call with so many values leaves alone what it must: of `out` all but the values where it is accepted; everything lent where
-/// it is refused; and where `out` is one too short, everything lent again, and it returns that. What it returned with room in `out`.
-pub fn assert_left<L: Clone + PartialEq>(values: usize, lent: &L, call: impl Fn(&mut L, &mut [u64]) -> u64) -> u64 {
-    let (mut after, mut out) = (lent.clone(), marks(values + 3));
+/// Panics unless a call leaves alone what it must: of `out` all but the values where it is accepted; everything lent where it is refused; and
+/// where `out` is one too short, everything lent again, and it returns that. What it returned with room in `out`.
+pub fn assert_left<L: Clone + PartialEq>(room: impl Into<Room>, lent: &L, call: impl Fn(&mut L, &mut [u64]) -> u64) -> u64 {
+    let Room { must, put } = room.into();
+    let (mut after, mut out) = (lent.clone(), marks(must + 3));
     let returned = call(&mut after, &mut out);
-    let put = if returned == 0 { values } else { 0 };
-    assert_eq!(out[put..], marks(values + 3)[put..], "out after {put} values");
+    let put = if returned == 0 { put } else { 0 };
+    assert_eq!(out[put..], marks(must + 3)[put..], "out after {put} values");
     assert!(returned == 0 || after == *lent, "what is lent, after refusal {returned}");
-    let (mut after, mut out) = (lent.clone(), marks(values - 1));
-    assert_eq!(call(&mut after, &mut out), raw::SHORT, "an out for {} of {values} values", values - 1);
-    assert!(out == marks(values - 1) && after == *lent, "what is lent with an out that is too short");
+    let (mut after, mut out) = (lent.clone(), marks(must - 1));
+    assert_eq!(call(&mut after, &mut out), raw::SHORT, "an out for {} of {must} values", must - 1);
+    assert!(out == marks(must - 1) && after == *lent, "what is lent with an out that is too short");
     returned
 }
 
 /// The same of a call that changes nothing but `out`.
-pub fn assert_out_left(values: usize, call: impl Fn(&mut [u64]) -> u64) -> u64 {
-    assert_left(values, &(), |_, out| call(out))
+pub fn assert_out_left(room: impl Into<Room>, call: impl Fn(&mut [u64]) -> u64) -> u64 {
+    assert_left(room, &(), |_, out| call(out))
 }
 
 /// So many rows before a call.
 pub fn marked_rows(storeys: usize, members: usize) -> (Vec<StoreyRow>, Vec<MemberRow>) {
-    let storeys = (0..storeys).map(|i| StoreyRow::from([7 + i as u64; 3])).collect();
-    let members = (0..members).map(|i| MemberRow::from([9 + i as u64; 26])).collect();
+    let storeys = (0..storeys).map(|i| StoreyRow::from([7 + i as u64; STOREY_NUMBERS])).collect();
+    let members = (0..members).map(|i| MemberRow::from([9 + i as u64; MEMBER_NUMBERS])).collect();
     (storeys, members)
 }
+
+// ---- the proved calls ----
 
 /// What the proved reading call answers for a file and so many rows. Panics where a row changed that it must leave alone.
 pub fn read(bytes: &[u8], storey_rows: usize, member_rows: usize) -> Result<Survey, Refusal> {
@@ -109,60 +165,32 @@ fn survey_of(survey: llunareth::Survey) -> Survey {
 }
 
 /// The proved check of a header.
-pub fn header_fault(numbers: &[u64; 6]) -> Result<(), Refusal> {
+pub fn header_fault(numbers: &[u64; HEADER_NUMBERS]) -> Result<(), Refusal> {
     llunareth::header_fault(&llunareth::Header::from(*numbers)).map_err(refusal)
 }
 
-/// The proved check of a storey.
-pub fn storey_fault(numbers: &[u64; 3]) -> Result<(), Refusal> {
-    llunareth::storey_fault(&StoreyRow::from(*numbers)).map_err(refusal)
+/// The proved check of a storey of a form.
+pub fn storey_fault(form: u64, numbers: &[u64; STOREY_NUMBERS]) -> Result<(), Refusal> {
+    llunareth::storey_fault(form, &StoreyRow::from(*numbers)).map_err(refusal)
 }
 
-/// The proved check of a member.
-pub fn member_fault(numbers: &[u64; 26]) -> Result<(), Refusal> {
-    llunareth::member_fault(&MemberRow::from(*numbers)).map_err(refusal)
+/// The proved check of a member of a form.
+pub fn member_fault(form: u64, numbers: &[u64; MEMBER_NUMBERS]) -> Result<(), Refusal> {
+    llunareth::member_fault(form, &MemberRow::from(*numbers)).map_err(refusal)
 }
 
-/// The proved call on a member, given by its stored numbers. `n` is not part of its answer, so it is taken over from `like`.
-pub fn judge_member(k: u64, met: bool, numbers: &[u64; 26], like: u64) -> Result<MemberFinding, Refusal> {
-    assert_out_left(raw::MEMBER_VALUES, |out| raw::judge_member(k, met, numbers, out));
-    let f = llunareth::judge_member(k, met, &MemberRow::from(*numbers)).map_err(refusal)?;
-    Ok(MemberFinding {
-        class: f.class.try_into().expect("a class from 1 to 5"),
-        n_d: f.nd,
-        n: like,
-        m: f.m,
-        m_limit: f.m_limit,
-        rotation: f.rotation,
-        rotation_limit: f.rotation_limit,
-        over: f.over,
-    })
+/// The proved call on a member of a form, given by its stored numbers: what is found in each case.
+pub fn judge_member(k: u64, form: u64, met: [bool; CASES], numbers: &[u64; MEMBER_NUMBERS]) -> Result<Vec<MemberFinding>, Refusal> {
+    assert_out_left(Room::of_member(form), |out| raw::judge_member(k, form, met, numbers, out));
+    let found = llunareth::judge_member(k, form, met, &MemberRow::from(*numbers)).map_err(refusal)?;
+    Ok(found.to_vec())
 }
 
-/// The members as rows; `None` where a force has no stored number.
-pub fn member_rows(members: &[Member]) -> Option<Vec<MemberRow>> {
-    members.iter().map(|m| member_numbers(m).map(MemberRow::from)).collect()
-}
-
-/// The storeys as rows.
-pub fn storey_rows(storeys: &[Storey]) -> Vec<StoreyRow> {
-    storeys.iter().map(|s| StoreyRow::from(storey_numbers(s))).collect()
-}
-
-/// The proved call on a storey.
-pub fn judge_storey(k: u64, s: &Storey, rows: &[MemberRow]) -> Result<StoreyFinding, Refusal> {
+/// The proved call on a storey of a form.
+pub fn judge_storey(k: u64, form: u64, s: &Storey, rows: &[MemberRow]) -> Result<StoreyFinding, Refusal> {
     let storey = storey_numbers(s);
-    assert_out_left(raw::STOREY_VALUES, |out| raw::judge_storey(k, &storey, rows, out));
-    let f = llunareth::judge_storey(k, &StoreyRow::from(storey), rows).map_err(refusal)?;
-    Ok(StoreyFinding {
-        number: s.number,
-        sum: f.axial_total,
-        c: f.members,
-        p: f.over_shear,
-        w: f.shear,
-        risky: f.risky,
-        meets_wall_share: f.walls_suffice,
-    })
+    assert_out_left(Room::of_storey(form), |out| raw::judge_storey(k, form, &storey, rows, out));
+    llunareth::judge_storey(k, form, &StoreyRow::from(storey), rows).map_err(refusal)
 }
 
 /// The proved call on a building.
@@ -186,21 +214,82 @@ pub fn write(h: &Header, storeys: &[Storey], rows: &[MemberRow], buffer: &mut [u
     llunareth::write(&header.into(), &storeys, rows, buffer).map(Vec::from).map_err(refusal)
 }
 
+/// The sheet of a good survey by the proved call.
+pub fn sheet(survey: &Survey) -> Vec<u8> {
+    let rows = member_rows(&survey.members).expect("good members");
+    report(&survey.header, &survey.storeys, &rows, &mut pattern(sheet_len(survey))).expect("accepted")
+}
+
+/// The file of a good survey by the proved call.
+pub fn file(survey: &Survey) -> Vec<u8> {
+    let rows = member_rows(&survey.members).expect("good members");
+    write(&survey.header, &survey.storeys, &rows, &mut pattern(file_len(survey))).expect("accepted")
+}
+
+// ---- both programs ----
+
+/// What the independent program finds of a member in a case, as the proved library tells it.
+pub fn told_member(f: &independent::MemberFinding) -> MemberFinding {
+    MemberFinding {
+        class: f.class.into(),
+        m: f.m,
+        m_limit: f.m_limit,
+        rotation: f.rotation,
+        rotation_limit: f.rotation_limit,
+        over: f.over,
+        nd: f.n_d,
+        m_dropped: f.m_dropped,
+        over_m: f.m_above && !f.m_dropped,
+        over_rotation: f.rotation_above,
+    }
+}
+
+/// The same of a storey. Of the allowed share the proved library tells two numbers with that quotient: these.
+pub fn told_storey(s: &independent::StoreyFinding, i: usize, share: (u64, u64)) -> StoreyCaseFinding {
+    let f = s.cases[i];
+    StoreyCaseFinding {
+        axial_total: s.sum,
+        members: s.c,
+        over_shear: f.p,
+        shear: f.w,
+        risky: f.risky,
+        walls_suffice: f.meets_wall_share,
+        by_share: f.by_share,
+        by_one_over: f.by_one_over,
+        by_damage: f.by_damage,
+        allowed_num: share.0,
+        allowed_den: share.1,
+    }
+}
+
 /// Judges a member by both programs and panics where they differ; the refusal, if it is one.
-pub fn same_member(k: u64, met: bool, m: &Member) -> Option<Refusal> {
+pub fn same_member(k: u64, form: u64, met: [bool; CASES], m: &Member) -> Option<Refusal> {
     let numbers = member_numbers(m)?;
-    let expected = independent::judge_member(k, met, m);
-    let n = expected.as_ref().map_or(0, |f| f.n);
-    assert_eq!(judge_member(k, met, &numbers, n), expected, "k {k}, met {met}: {m:?}");
+    let expected = independent::judge_member(k, form, met, m);
+    let told = expected.as_ref().map(|found| found.iter().map(told_member).collect());
+    assert_eq!(judge_member(k, form, met, &numbers), told.map_err(|&refusal| refusal), "k {k}, form {form}, met {met:?}: {m:?}");
     expected.err()
 }
 
 /// Judges a storey by both programs and panics where they differ; the refusal, if it is one.
-pub fn same_storey(k: u64, s: &Storey, members: &[Member]) -> Option<Refusal> {
+pub fn same_storey(k: u64, form: u64, s: &Storey, members: &[Member]) -> Option<Refusal> {
     let rows = member_rows(members)?;
-    let expected = independent::judge_storey(k, s, members);
-    assert_eq!(judge_storey(k, s, &rows), expected, "k {k}, {s:?}, {members:?}");
-    expected.err()
+    let about = format!("k {k}, form {form}, {s:?}, {members:?}");
+    match (judge_storey(k, form, s, &rows), independent::judge_storey(k, form, s, members)) {
+        (Ok(found), Ok(expected)) => {
+            assert_eq!((found.risky, found.cases.len()), (expected.risky, expected.cases.len()), "{about}");
+            for (i, case) in found.cases.iter().enumerate() {
+                let share = (case.allowed_num, case.allowed_den);
+                assert_eq!(Fraction::new(share.0.into(), share.1.into()), expected.cases[i].allowed_share, "{about}");
+                assert_eq!(*case, told_storey(&expected, i, share), "{about}");
+            }
+            None
+        }
+        (found, expected) => {
+            assert_eq!(found.err(), expected.clone().err(), "{about}");
+            expected.err()
+        }
+    }
 }
 
 /// Judges a building by both programs and panics where they differ; the refusal, if it is one.
@@ -223,11 +312,6 @@ pub fn same_building(survey: &Survey) -> Option<Refusal> {
     }
 }
 
-/// The bytes of a sheet: 86 for each member, 74 for each storey, 26 for the building.
-pub fn sheet_len(survey: &Survey) -> usize {
-    86 * survey.members.len() + 74 * survey.storeys.len() + 26
-}
-
 /// Bytes beyond a lent buffer, looked at after each call.
 const BEYOND: usize = 64;
 
@@ -240,8 +324,10 @@ pub fn pattern(len: usize) -> Vec<u8> {
 fn assert_filled(buffer: &[u8], front: &[u8]) {
     let mut expected = pattern(buffer.len());
     expected[..front.len()].copy_from_slice(front);
-    let differs = (0..buffer.len()).find(|&i| buffer[i] != expected[i]);
-    assert_eq!(differs, None, "the place of a byte that differs; due from the front:\n{}", String::from_utf8_lossy(front));
+    if buffer != expected {
+        let differs = (0..buffer.len()).find(|&i| buffer[i] != expected[i]);
+        panic!("byte {differs:?} differs; due from the front:\n{}", String::from_utf8_lossy(front));
+    }
 }
 
 /// Writes the report by both programs into so many bytes and panics where they differ; the refusal, if it is one.
@@ -253,11 +339,6 @@ pub fn same_report(survey: &Survey, len: usize) -> Option<Refusal> {
     assert_filled(&buffer, expected.as_deref().unwrap_or_default());
     assert!(found == expected, "{len} bytes: {survey:?}");
     expected.err()
-}
-
-/// The bytes of a file: 50, 26 for each storey and 210 for each member.
-pub fn file_len(survey: &Survey) -> usize {
-    50 + 26 * survey.storeys.len() + 210 * survey.members.len()
 }
 
 /// Writes the survey as a file by both programs into so many bytes and panics where they differ; the refusal, if it is one.
@@ -298,15 +379,28 @@ pub fn same_determine(input: &[u8], len: usize) -> Vec<u8> {
     expected
 }
 
+// ---- surveys ----
+
+/// Each storey of a survey with its members.
+pub fn by_storey(survey: &Survey) -> Vec<(Storey, &[Member])> {
+    let mut rest = &survey.members[..];
+    let mut take = |count: u64| {
+        let (own, after) = rest.split_at((count as usize).min(rest.len()));
+        rest = after;
+        own
+    };
+    survey.storeys.iter().map(|s| (*s, take(s.count))).collect()
+}
+
 /// Document 01's worked example.
 pub fn worked_example() -> Survey {
-    let fields =
-        [1, 300, 300, 90_000, 100, 110, 2_200, 270, 3_000, 200, 250, 100, 0, 0, 0, 100, 0, 3_150, 3_150, 600, 200, 60, 100, 200, 9_000, 0];
-    let first = Member::from_fields(&fields);
+    let once = [1, 300, 300, 90_000, 100, 110, 2_200, 270, 3_000, 200, 250, 100, 0, 0, 0, 100, 0, 3_150];
+    let load = LoadCase::from_values(&[3_150, 600, 200, 60, 100, 200, 9_000, 0]);
+    let first = Member::from_values(&once, one_case(load));
     Survey {
-        header: Header::from_fields(&[100, 9_000, 3, 0, 0, 1]),
-        storeys: vec![Storey { number: 1, shear: 1_000, member_count: 2 }],
-        members: vec![first, Member { number: 2, n_d: 3_600, m_e: 400, v: 700, ..first }],
+        header: Header::from_values(&[100, 9_000, 3, 0, 0, 1], OLD_FORM),
+        storeys: vec![Storey { number: 1, shears: [1_000, 0, 0, 0], count: 2 }],
+        members: vec![first, Member { number: 2, n_d: 3_600, cases: one_case(LoadCase { m_e: 400, v: 700, ..load }), ..first }],
     }
 }
 
@@ -318,7 +412,43 @@ S           1       75000           2         200        1000           1
 B           0           1
 ";
 
-/// A column that is good, with n = N_K, n_D = N_D, rho 3,250 and neither marks nor demand.
+/// The worked example in four cases: the first as it is; the second with twice the storey shear; in the third the moments halved; in the fourth
+/// rotations one past their limits.
+pub fn worked_example_in_cases() -> Survey {
+    let mut survey = worked_example();
+    survey.header.form = CASE_FORM;
+    survey.storeys[0].shears = [1_000, 2_000, 1_000, 1_000];
+    for m in &mut survey.members {
+        m.cases = [m.cases[0]; CASES];
+        m.cases[2].m_e /= 2;
+        m.cases[3].rotation = 12_501;
+    }
+    survey
+}
+
+/// What is printed for it.
+pub const WORKED_SHEET_IN_CASES: &str = "\
+M           1           1           2      300000      259090        9000       12500           1
+M           1           2           2      200000      259090        9000       12500           0
+S           1           1       75000           2         200        1000           1
+M           2           1           2      300000      259090        9000       12500           1
+M           2           2           2      200000      259090        9000       12500           0
+S           2           1       75000           2         200        2000           0
+M           3           1           2      150000      259090        9000       12500           0
+M           3           2           2      100000      259090        9000       12500           0
+S           3           1       75000           2           0        1000           0
+M           4           1           2      300000      259090       12501       12500           1
+M           4           2           2      200000      259090       12501       12500           1
+S           4           1       75000           2         900        1000           1
+B           0           1
+";
+
+/// The worked example of each form, with its sheet.
+pub fn worked_examples() -> [(Survey, &'static str); 2] {
+    [(worked_example(), WORKED_SHEET), (worked_example_in_cases(), WORKED_SHEET_IN_CASES)]
+}
+
+/// A column of the old form that is good, with n = N_K, n_D = N_D, rho 3,250 and neither marks nor demand.
 pub fn plain_column() -> Member {
     Member {
         number: 1,
@@ -334,19 +464,29 @@ pub fn plain_column() -> Member {
         b_k: 400,
         a_sh: 130,
         factor: 100,
-        m_p: 100,
-        v_r: 1,
+        cases: one_case(LoadCase { m_p: 100, v_r: 1, ..LoadCase::default() }),
         ..Member::default()
     }
 }
 
-/// A building of storeys of 200 members at the edges.
-pub fn at_edges(rng: &mut Rng, storeys: u64) -> Survey {
+/// The survey of the old form in four cases, of which each holds what its one case holds.
+pub fn in_four_cases(survey: &Survey) -> Survey {
+    let mut survey = survey.clone();
+    survey.header.form = CASE_FORM;
+    survey.storeys.iter_mut().for_each(|s| s.shears = [s.shears[0]; CASES]);
+    survey.members.iter_mut().for_each(|m| m.cases = [m.cases[0]; CASES]);
+    survey
+}
+
+/// A building of a form, of storeys of 200 members at the edges.
+pub fn at_edges(rng: &mut Rng, form: u64, storeys: u64) -> Survey {
     let knowledge = rng.pick(&[90, 100]);
-    let mut member = |i: u64| Member { number: 1 + i % 200, ..edge_member_for(rng, knowledge) };
+    let mut member = |i: u64| Member { number: 1 + i % 200, ..edge_member_for(rng, knowledge, form) };
+    let shear = |number: u64, i: usize| if i < cases_of(form) { 5_000 * number + 1_000 * i as u64 } else { 0 };
+    let storey = |number| Storey { number, shears: std::array::from_fn(|i| shear(number, i)), count: 200 };
     Survey {
         members: (0..200 * storeys).map(&mut member).collect(),
-        storeys: (1..=storeys).map(|number| Storey { number, shear: 5_000 * number, member_count: 200 }).collect(),
-        header: Header { knowledge, height: 30_000, storeys_above_ground: 10, tilt_1: 0, tilt_2: 0, storey_count: storeys },
+        storeys: (1..=storeys).map(storey).collect(),
+        header: Header { knowledge, height: 30_000, storeys_above_ground: 10, tilt_1: 0, tilt_2: 0, storey_count: storeys, form },
     }
 }

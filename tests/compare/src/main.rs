@@ -1,7 +1,10 @@
 //! Compares the proved library with the independent program on generated files and records: compare SEED COUNT
 use compare::spectrum::{same_site, same_spectrum};
-use compare::{file_len, same_building, same_determine, same_file, same_member, same_report, same_storey, sheet_len};
-use generator::{any_file, edge_member_for, lent_bytes, lent_rows, map_coefficients, period, site_class, usage, valid_survey, wild_member, wild_survey, Rng};
+use compare::{by_storey, same_building, same_determine, same_file, same_member, same_report, same_storey};
+use generator::{
+    any_file, any_form, edge_member_for, file_len, lent_bytes, lent_rows, map_coefficients, period, sheet_len, site_class, usage, valid_survey,
+    wild_member, wild_survey, Rng,
+};
 use independent::Survey;
 
 /// The files on which the reading calls differ. Each is determined as well, in a buffer of some length.
@@ -25,11 +28,8 @@ fn compare_survey(rng: &mut Rng, survey: &Survey) {
     same_report(survey, lent_bytes(rng, sheet_len(survey)));
     same_file(survey, lent_bytes(rng, file_len(survey)));
     same_building(survey);
-    let mut rest = &survey.members[..];
-    for s in &survey.storeys {
-        let (own, after) = rest.split_at((s.member_count as usize).min(rest.len()));
-        rest = after;
-        same_storey(survey.header.knowledge, s, own);
+    for (s, own) in by_storey(survey) {
+        same_storey(survey.header.knowledge, survey.header.form, &s, own);
     }
 }
 
@@ -48,9 +48,10 @@ fn main() {
     let differences = compare_files(&mut rng, count);
     for _ in 0..count {
         let k = rng.pick(&[90, 100]);
-        let met = rng.chance(50);
-        same_member(k, met, &edge_member_for(&mut rng, k));
-        same_member(k, met, &wild_member(&mut rng));
+        let form = any_form(&mut rng);
+        let met = std::array::from_fn(|_| rng.chance(50));
+        same_member(k, form, met, &edge_member_for(&mut rng, k, form));
+        same_member(k, form, met, &wild_member(&mut rng, form));
         let (valid, wild) = (valid_survey(&mut rng), wild_survey(&mut rng));
         compare_survey(&mut rng, &valid);
         compare_survey(&mut rng, &wild);

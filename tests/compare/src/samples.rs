@@ -40,9 +40,18 @@ pub fn survey(name: &str) -> Vec<u8> {
     bytes(name, ".survey")
 }
 
+fn write(name: &str, ending: &str, bytes: &[u8]) {
+    fs::write(path(name, ending), bytes).unwrap_or_else(|e| panic!("{name}{ending}: {e}"));
+}
+
+/// Puts the survey of a sample in the folder.
+pub fn write_survey(name: &str, survey: &[u8]) {
+    write(name, ".survey", survey);
+}
+
 /// Puts the sheet of a sample beside its survey.
 pub fn write_sheet(name: &str, sheet: &[u8]) {
-    fs::write(path(name, ".sheet"), sheet).unwrap_or_else(|e| panic!("{name}.sheet: {e}"));
+    write(name, ".sheet", sheet);
 }
 
 fn sample(name: String) -> Sample {

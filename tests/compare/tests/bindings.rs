@@ -1,11 +1,14 @@
 //! The header for C and C++ and the program `verdict`, over the proved library, against the independent program.
 use compare::{
-    header_numbers, judge_building, member_numbers, member_rows, plain_column, refusal_told, same_building, same_member, samples,
-    storey_numbers, worked_example,
+    by_storey, header_numbers, in_four_cases, judge_building, judge_storey, member_numbers, member_rows, plain_column, refusal_told, same_building,
+    same_member, samples, storey_numbers, told_member, told_storey, worked_example,
 };
-use generator::{any_file, map_coefficients, period, site_class, usage, valid_survey, write_survey, Rng};
-use independent::{Header, Member, Motion, Storey, Survey};
-use llunareth::raw;
+use generator::{
+    any_file, map_coefficients, members_most, one_case, period, site_class, survey_in_case, usage, valid_survey, write_survey, Rng, INPUT_MOST,
+};
+use independent::lines::OLD_FORM;
+use independent::{Header, LoadCase, Member, Motion, Storey, Survey};
+use llunareth::{raw, MemberFinding, StoreyCaseFinding};
 use std::fs::{self, File};
 use std::io::Write;
 use std::path::{Path, PathBuf};
@@ -153,7 +156,7 @@ fn verdict_on_generated_files() {
 #[test]
 fn verdict_by_tilt_alone() {
     let mut survey = worked_example();
-    survey.members.iter_mut().for_each(|m| (m.m_e, m.rotation) = (0, 0));
+    survey.members.iter_mut().for_each(|m| (m.cases[0].m_e, m.cases[0].rotation) = (0, 0));
     for (tilt, line) in [(25_000, "not Risky\n"), (25_001, "Risky: tilt\n")] {
         let path = own("tilt.survey");
         survey.header.tilt_2 = tilt;
@@ -175,7 +178,7 @@ fn verdict_names_the_storey_by_its_number() {
 fn verdict_on_lengths_about_the_most_that_is_read() {
     let path = own("long.survey");
     let mut bytes = write_survey(&worked_example());
-    for (len, line) in [(65_536, "refused: 6 at line 5\n"), (65_537, "refused: 8\n"), (200_000, "refused: 8\n")] {
+    for (len, line) in [(INPUT_MOST, "refused: 6 at line 5\n"), (INPUT_MOST + 1, "refused: 8\n"), (200_000, "refused: 8\n")] {
         bytes.resize(len, b' ');
         fs::write(&path, &bytes).expect("written");
         assert_eq!(same_verdict(&path), line, "{len} bytes");
@@ -213,12 +216,13 @@ fn verdict_with_another_version_of_the_library() {
 fn the_scales_are_those_of_both_programs() {
     let (ratio, rotation) = (llunareth::RATIO_SCALE, llunareth::ROTATION_SCALE);
     let force = 1_000 * llunareth::FORCE_SCALE;
-    let column = Member { a_c: 100_000, n_d: force as i64, m_e: 100, m_p: 100, ..plain_column() };
+    let load = LoadCase { m_e: 100, m_p: 100, v_r: 1, ..LoadCase::default() };
+    let column = Member { a_c: 100_000, n_d: force as i64, cases: one_case(load), ..plain_column() };
     let numbers = member_numbers(&column).expect("a good member");
     assert_eq!(numbers[17], llunareth::ZERO_FORCE + force);
-    let found = llunareth::judge_member(100, false, &numbers.into()).expect("accepted");
+    let found = llunareth::judge_member(100, OLD_FORM, [false; 4], &numbers.into()).expect("accepted")[0];
     assert_eq!((found.nd, found.m), (ratio, ratio));
-    assert_eq!(same_member(100, false, &column), None);
+    assert_eq!(same_member(100, OLD_FORM, [false; 4], &column), None);
     for (tilt, above) in [(rotation / 40, false), (rotation / 40 + 1, true)] {
         let mut survey = worked_example();
         survey.header.tilt_1 = tilt;
@@ -236,35 +240,56 @@ fn line(word: &str, numbers: &[u64]) -> String {
     format!("{word}{numbers}\n")
 }
 
-/// The judgment of a storey and of its members.
-fn storey_lines(k: u64, s: &Storey, members: &[Member]) -> String {
-    let f = independent::judge_storey(k, s, members).expect("accepted");
-    let mut lines = line("storey", &[0, f.sum, f.c, f.p, f.w, f.risky.into(), f.meets_wall_share.into()]);
+/// The values of a finding, in their order.
+fn member_values(f: MemberFinding) -> [u64; raw::FINDING_VALUES] {
+    let flags = [f.m_dropped, f.over_m, f.over_rotation].map(u64::from);
+    [f.class, f.m, f.m_limit, f.rotation, f.rotation_limit, f.over.into(), f.nd, flags[0], flags[1], flags[2]]
+}
+
+fn storey_values(f: StoreyCaseFinding) -> [u64; raw::STOREY_CASE_VALUES] {
+    let [risky, met, share, one, damage] = [f.risky, f.walls_suffice, f.by_share, f.by_one_over, f.by_damage].map(u64::from);
+    [f.axial_total, f.members, f.over_shear, f.shear, risky, met, share, one, damage, f.allowed_num, f.allowed_den]
+}
+
+/// The judgment of a storey and of its members. Of the allowed share only the quotient is fixed, so its two numbers are taken over from the proved
+/// call.
+fn storey_lines(k: u64, form: u64, s: &Storey, members: &[Member]) -> String {
+    let proved = judge_storey(k, form, s, &member_rows(members).expect("good members")).expect("accepted");
+    let f = independent::judge_storey(k, form, s, members).expect("accepted");
+    let mut lines = line("storey", &[0, f.risky.into()]);
+    let mut met = [false; 4];
+    for (i, case) in proved.cases.iter().enumerate() {
+        met[i] = f.cases[i].meets_wall_share;
+        lines += &line("storey case", &storey_values(told_storey(&f, i, (case.allowed_num, case.allowed_den))));
+    }
     for m in members {
-        let f = independent::judge_member(k, f.meets_wall_share, m).expect("accepted");
-        lines += &line("member", &[0, f.class.into(), f.m, f.m_limit, f.rotation, f.rotation_limit, f.over.into(), f.n_d]);
+        lines += &line("member", &[0]);
+        let found = independent::judge_member(k, form, met, m).expect("accepted");
+        lines.extend(found.iter().map(|f| line("member case", &member_values(told_member(f)))));
     }
     lines
 }
 
-/// A row by the names of its fields, and by its words from the first on: the numbers of its line in their order.
-fn row_lines(word: &str, numbers: &[u64]) -> String {
-    line(word, numbers) + &line("words", numbers)
+/// A storey's row by the names of its fields, and by its words from the first on: its numbers in their order.
+fn storey_row_lines(numbers: &[u64]) -> String {
+    line("S", numbers) + &line("words", numbers)
+}
+
+/// The same of a member's row, each case in a line of its own.
+fn member_row_lines(numbers: &[u64]) -> String {
+    let (once, cases) = numbers.split_at(numbers.len() - llunareth::CASES * llunareth::CASE_NUMBERS);
+    let cases: String = cases.chunks(llunareth::CASE_NUMBERS).map(|case| line("D", case)).collect();
+    line("M", once) + &cases + &line("words", numbers)
 }
 
 /// What calls.c prints of an accepted survey. The place is any Risky storey's, so it is taken over from the proved call.
 fn survey_lines(survey: &Survey) -> String {
     let Survey { header, storeys, members } = survey;
     let mut lines = line("read", &[&[0, 0], &header_numbers(header)[..]].concat());
-    lines.extend(storeys.iter().map(|s| row_lines("S", &storey_numbers(s))));
-    lines.extend(members.iter().map(|m| row_lines("M", &member_numbers(m).expect("a good member"))));
-    lines += "faults 0 0 0 3 3 3\n";
-    let mut rest = &members[..];
-    for s in storeys {
-        let (own, after) = rest.split_at(s.member_count as usize);
-        lines += &storey_lines(header.knowledge, s, own);
-        rest = after;
-    }
+    lines.extend(storeys.iter().map(|s| storey_row_lines(&storey_numbers(s))));
+    lines.extend(members.iter().map(|m| member_row_lines(&member_numbers(m).expect("a good member"))));
+    lines += "faults 0 0 0 3 3 3\nlacking 0 3\n";
+    lines.extend(by_storey(survey).iter().map(|(s, own)| storey_lines(header.knowledge, header.form, s, own)));
     let found = independent::judge_building(header, storeys, members).expect("accepted");
     let place = judge_building(header, storeys, &member_rows(members).expect("good members")).expect("accepted").place;
     lines += &line("building", &[0, found.tilt_above.into(), found.risky.into(), place]);
@@ -277,21 +302,33 @@ fn survey_lines(survey: &Survey) -> String {
 
 /// The constants of the header are those of the Rust package.
 fn constants_lines() -> String {
-    let write_most = llunareth::WRITE_MOST as u64;
-    let scales = [llunareth::RATIO_SCALE, llunareth::ROTATION_SCALE, llunareth::FORCE_SCALE, llunareth::ZERO_FORCE, write_most];
-    let values = [raw::READ_VALUES, raw::MEMBER_VALUES, raw::STOREY_VALUES, raw::BUILDING_VALUES, raw::REPORT_VALUES, raw::WRITE_VALUES];
+    let (write_most, sheet_most) = (llunareth::WRITE_MOST as u64, llunareth::SHEET_MOST as u64);
+    let scales = [llunareth::RATIO_SCALE, llunareth::ROTATION_SCALE, llunareth::FORCE_SCALE, llunareth::ZERO_FORCE, write_most, sheet_most];
+    let forms = [llunareth::OLD_FORM, llunareth::FOUR_CASES, llunareth::CASES as u64];
+    let numbers = [llunareth::HEADER_NUMBERS, llunareth::STOREY_NUMBERS, llunareth::CASE_NUMBERS, llunareth::MEMBER_NUMBERS].map(|n| n as u64);
+    let values = [
+        raw::READ_VALUES,
+        raw::FINDING_VALUES,
+        raw::MEMBER_VALUES,
+        raw::STOREY_VALUES,
+        raw::STOREY_CASE_VALUES,
+        raw::BUILDING_VALUES,
+        raw::REPORT_VALUES,
+        raw::WRITE_VALUES,
+    ];
     let values = values.map(|n| n as u64);
-    line("version", &[raw::VERSION; 2]) + &line("scales", &scales) + &line("values", &[&[raw::SHORT], &values[..]].concat())
+    let values = [&[raw::SHORT], &values[..]].concat();
+    [line("version", &[raw::VERSION; 2]), line("scales", &scales), line("forms", &forms), line("numbers", &numbers), line("values", &values)].concat()
 }
 
 /// What calls.c prints for a file.
 fn calls_lines(file: &[u8]) -> String {
     let read = match independent::read(file, 10, 320) {
         Ok(survey) => survey_lines(&survey),
-        Err(refusal) => line("read", &[refusal.number.into(), refusal.line, 0, 0, 0, 0, 0, 0]),
+        Err(refusal) => line("read", &[refusal.number.into(), refusal.line, 0, 0, 0, 0, 0, 0, 0]),
     };
     let printed = independent::determine(file);
-    constants_lines() + "sizes 24 64 208\n" + &read + &line("determine", &[printed.len() as u64]) + std::str::from_utf8(&printed).expect("text")
+    constants_lines() + "sizes 48 64 400\n" + &read + &line("determine", &[printed.len() as u64]) + std::str::from_utf8(&printed).expect("text")
 }
 
 /// The samples, and good surveys with other numbers in every field.
@@ -358,37 +395,38 @@ fn sites_and_spectra_by_the_names_of_the_header() {
 
 /// Bytes that each call takes at most, as docs/CALLS.md states them.
 const STACKS: [(&str, usize); 12] = [
-    ("llunareth_read", 5_000),
+    ("llunareth_read", 9_000),
     ("llunareth_header_fault", 1_000),
     ("llunareth_storey_fault", 1_000),
-    ("llunareth_member_fault", 1_000),
-    ("llunareth_judge_member", 5_000),
-    ("llunareth_judge_storey", 3_000),
-    ("llunareth_judge_building", 3_000),
+    ("llunareth_member_fault", 2_000),
+    ("llunareth_judge_member", 4_000),
+    ("llunareth_judge_storey", 4_000),
+    ("llunareth_judge_building", 4_000),
     ("llunareth_report", 4_000),
     ("llunareth_write", 3_000),
     ("llunareth_site_coefficients", 3_000),
     ("llunareth_spectrum", 3_000),
-    ("llunareth_determine", 72_000),
+    ("llunareth_determine", 136_000),
 ];
 
-/// A survey with so many members in each storey.
+/// A survey in four cases with so many members in each storey.
 fn survey_of(counts: &[u64]) -> Survey {
     let member = |number| Member { number, ..plain_column() };
-    Survey {
-        header: Header::from_fields(&[100, 30_000, counts.len() as i128, 0, 0, counts.len() as i128]),
-        storeys: (1..).zip(counts).map(|(number, &count)| Storey::from_fields(&[number, 9_999_999, count.into()])).collect(),
+    let storey = |(number, &count): (u64, &u64)| Storey { number, shears: [9_999_999, 0, 0, 0], count };
+    in_four_cases(&Survey {
+        header: Header::from_values(&[100, 30_000, counts.len() as i128, 0, 0, counts.len() as i128], OLD_FORM),
+        storeys: (1..).zip(counts).map(storey).collect(),
         members: counts.iter().flat_map(|&count| (1..=count).map(member)).collect(),
-    }
+    })
 }
 
-#[test]
-fn the_stack_of_each_call() {
-    let program = build(&mut compiler("cc", "-std=c99"), "tests/compare/c/stack.c", "stack");
-    let (largest, longest) = (own("largest.survey"), own("longest.survey"));
-    fs::write(&largest, write_survey(&survey_of(&[200; 10]))).expect("written");
-    fs::write(&longest, write_survey(&survey_of(&[200, 111]))).expect("written");
-    let (printed, code) = outcome(Command::new(program).args([largest, longest]).output().expect("stack starts"));
+/// Prints the stack of each call and panics where one takes more than is stated.
+fn assert_stacks(largest: &Survey, longest: &Survey) {
+    let program = build(&mut compiler("cc", "-std=c99"), "tests/compare/c/stack.c", &format!("stack{}", largest.header.form));
+    let name = |size: &str| own(&format!("{size}{}.survey", largest.header.form));
+    fs::write(name("largest"), write_survey(largest)).expect("written");
+    fs::write(name("longest"), write_survey(longest)).expect("written");
+    let (printed, code) = outcome(Command::new(program).args([name("largest"), name("longest")]).output().expect("stack starts"));
     assert_eq!(code, Some(0), "a call refused its survey: {printed}");
     let lines: Vec<&str> = printed.lines().collect();
     assert_eq!(lines.len(), STACKS.len());
@@ -396,4 +434,12 @@ fn the_stack_of_each_call() {
         let taken = line.strip_prefix(name).and_then(|rest| rest.trim().parse::<usize>().ok()).expect("a call and its bytes");
         assert!(0 < taken && taken <= most, "{line}, at most {most}");
     }
+}
+
+#[test]
+fn the_stack_of_each_call() {
+    let (largest, longest) = (survey_of(&[200; 10]), survey_of(&[members_most(llunareth::FOUR_CASES, 1) as u64]));
+    assert_stacks(&largest, &longest);
+    let old = [200, members_most(OLD_FORM, 2) as u64 - 200];
+    assert_stacks(&survey_in_case(0, &largest), &survey_in_case(0, &survey_of(&old)));
 }

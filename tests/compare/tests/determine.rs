@@ -1,6 +1,7 @@
 //! `determine`, as a call and as a program, against the independent program, byte by byte.
-use compare::{refusal_line, refusal_told, same_determine, samples, worked_example, WORKED_SHEET};
-use generator::{any_file, damage, lent_bytes, surveys_at_rows, valid_survey, write_survey, Rng};
+use compare::{refusal_line, refusal_told, same_determine, samples, worked_example, worked_examples, FILE_REFUSALS, FORMS, REFUSALS};
+use generator::{any_file, damage, lent_bytes, member_bytes, surveys_at_rows, valid_survey, valid_survey_of, write_survey, Rng, INPUT_MOST};
+use independent::lines::OLD_FORM;
 use std::collections::BTreeSet;
 use std::fs::{self, File, OpenOptions};
 use std::io::{ErrorKind, Write};
@@ -12,16 +13,14 @@ use std::thread::sleep;
 use std::time::Duration;
 
 const SEED: u64 = 20_260_119;
-/// The most bytes that are read as a survey.
-const INPUT_MOST: usize = 65_536;
-/// More bytes than any sheet of such a file has.
-const ROOM: usize = 30_000;
+/// More bytes than the sheet of any file that is determined has.
+const ROOM: usize = 62_000;
 
 /// The lines at which each refusal came up, and how many files were accepted.
 #[derive(Default)]
 struct Seen {
     accepted: u32,
-    lines: [BTreeSet<u64>; 9],
+    lines: [BTreeSet<u64>; REFUSALS],
 }
 
 impl Seen {
@@ -32,9 +31,9 @@ impl Seen {
         }
     }
 
-    /// At how many lines each refusal from 1 to 8 came up.
-    fn counts(&self) -> [usize; 8] {
-        std::array::from_fn(|i| self.lines[i + 1].len())
+    /// At how many lines each refusal of a file came up, in the order of FILE_REFUSALS.
+    fn counts(&self) -> [usize; 9] {
+        FILE_REFUSALS.map(|number| self.lines[number].len())
     }
 }
 
@@ -48,15 +47,15 @@ fn generated_files_good_and_damaged() {
         seen.note(&same_determine(&any_file(&mut rng), ROOM));
     }
     let counts = seen.counts();
-    assert!(counts[..6].iter().all(|&n| n >= 20), "refusals 1 to 6 at many lines: {counts:?}");
+    assert!(counts[..6].iter().chain(&counts[8..]).all(|&n| n >= 20), "refusals 1 to 6 and 12 at many lines: {counts:?}");
     assert_eq!((&seen.lines[7], &seen.lines[8]), (&BTreeSet::from([1]), &BTreeSet::from([0])));
     assert!(seen.accepted > 5_000, "{} accepted", seen.accepted);
 }
 
-/// A good file of about a hundred members or more.
-fn large_file(rng: &mut Rng) -> Vec<u8> {
+/// A good file of a form that is long.
+fn large_file(rng: &mut Rng, form: u64) -> Vec<u8> {
     loop {
-        let bytes = write_survey(&valid_survey(rng));
+        let bytes = write_survey(&valid_survey_of(rng, form));
         if bytes.len() > 20_000 {
             return bytes;
         }
@@ -66,21 +65,23 @@ fn large_file(rng: &mut Rng) -> Vec<u8> {
 #[test]
 fn large_files() {
     let mut rng = Rng::new(SEED + 1);
-    let mut seen = Seen::default();
-    let mut longest = 0;
-    for _ in 0..300 {
-        let bytes = large_file(&mut rng);
-        longest = longest.max(bytes.len());
-        assert_eq!(refusal_told(&same_determine(&bytes, ROOM)), None);
-        seen.note(&same_determine(&damage(&mut rng, &bytes), ROOM));
+    for form in FORMS {
+        let mut seen = Seen::default();
+        let mut longest = 0;
+        for _ in 0..300 {
+            let bytes = large_file(&mut rng, form);
+            longest = longest.max(bytes.len());
+            assert_eq!(refusal_told(&same_determine(&bytes, ROOM)), None);
+            seen.note(&same_determine(&damage(&mut rng, &bytes), ROOM));
+        }
+        assert!(longest > INPUT_MOST - member_bytes(form), "the longest file of form {form} has {longest} bytes");
+        assert!(seen.lines[2].len() > 20, "{:?}", seen.counts());
     }
-    assert!(longest > INPUT_MOST - 210, "the longest file has {longest} bytes");
-    assert!(seen.lines[2].len() > 20, "{:?}", seen.counts());
 }
 
 #[test]
 fn every_row_of_the_tables() {
-    for survey in surveys_at_rows() {
+    for survey in FORMS.into_iter().flat_map(surveys_at_rows) {
         let printed = same_determine(&write_survey(&survey), ROOM);
         assert_eq!(refusal_told(&printed), None);
     }
@@ -105,15 +106,17 @@ fn buffers_of_every_length() {
 }
 
 #[test]
-fn every_buffer_of_the_worked_example() {
-    let file = write_survey(&worked_example());
-    for room in 0..600 {
-        let expected = match room {
-            0..26 => Vec::new(),
-            26..272 => refusal_line(9, 0),
-            _ => WORKED_SHEET.into(),
-        };
-        assert_eq!(same_determine(&file, room), expected, "{room} bytes");
+fn every_buffer_of_the_worked_examples() {
+    for (survey, sheet) in worked_examples() {
+        let file = write_survey(&survey);
+        for room in 0..sheet.len() + 300 {
+            let expected = match room {
+                0..26 => Vec::new(),
+                _ if room < sheet.len() => refusal_line(9, 0),
+                _ => sheet.into(),
+            };
+            assert_eq!(same_determine(&file, room), expected, "{room} bytes");
+        }
     }
 }
 
@@ -138,20 +141,23 @@ fn lengths_about_the_most_that_is_read() {
 
 #[test]
 fn every_length_and_byte_of_a_small_file() {
-    let bytes = write_survey(&worked_example());
-    let mut seen = Seen::default();
-    for len in 0..=bytes.len() {
-        seen.note(&same_determine(&bytes[..len], ROOM));
-    }
-    for at in 0..bytes.len() {
-        for byte in [0, b'\n', b' ', b'-', b'0', b'1', b'9', b'B', b'S', b'M', 255] {
-            let mut changed = bytes.clone();
-            changed[at] = byte;
-            seen.note(&same_determine(&changed, ROOM));
+    for (survey, _) in worked_examples() {
+        let bytes = write_survey(&survey);
+        let lines = bytes.iter().filter(|&&byte| byte == b'\n').count();
+        let mut seen = Seen::default();
+        for len in 0..=bytes.len() {
+            seen.note(&same_determine(&bytes[..len], ROOM));
         }
+        for at in 0..bytes.len() {
+            for byte in [0, b'\n', b' ', b'-', b'0', b'1', b'9', b'B', b'S', b'M', b'D', 255] {
+                let mut changed = bytes.clone();
+                changed[at] = byte;
+                seen.note(&same_determine(&changed, ROOM));
+            }
+        }
+        let counts = seen.counts();
+        assert!(counts[..3].iter().all(|&n| n >= lines), "refusals 1 to 3 at each of the {lines} lines: {counts:?}");
     }
-    let counts = seen.counts();
-    assert!(counts[..3].iter().all(|&n| n >= 4), "refusals 1 to 3 at each of the four lines: {counts:?}");
 }
 
 // ---- the program ----
@@ -233,14 +239,16 @@ fn the_program_on_input_that_comes_in_parts() {
     same_printed(&example, 1, pause);
     same_printed(&example[..example.len() - 1], 1, pause);
     for chunk in [7, 211, 997, 4_095, 4_097, 65_535] {
-        same_printed(&write_survey(&surveys_at_rows()[0]), chunk, pause);
+        for form in FORMS {
+            same_printed(&write_survey(&surveys_at_rows(form)[0]), chunk, pause);
+        }
         same_printed(&any_file(&mut rng), chunk.max(97), pause);
     }
 }
 
 #[test]
 fn the_program_on_lengths_about_the_most_that_is_read() {
-    let mut bytes = write_survey(&surveys_at_rows()[0]);
+    let mut bytes = write_survey(&surveys_at_rows(OLD_FORM)[0]);
     same_at_once(b"");
     for len in [INPUT_MOST - 1, INPUT_MOST, INPUT_MOST + 1, INPUT_MOST + 2, 100_000] {
         bytes.resize(len, b'\n');

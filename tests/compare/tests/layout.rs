@@ -1,11 +1,13 @@
 //! Records handed to the calls have each field in its own place: both programs agree on surveys that would be answered otherwise if any two
 //! fields were exchanged.
-use compare::{header_numbers, header_of, member_numbers, member_of, same_building, same_report, same_storey, sheet_len, storey_numbers, storey_of};
-use generator::{valid_survey, Rng};
+use compare::{header_numbers, header_of, member_numbers, member_of, same_building, same_report, same_storey, storey_numbers, storey_of};
+use generator::{sheet_len, valid_survey_of, Rng};
+use independent::lines::CASE_FORM;
 use independent::{Member, Storey, Survey};
+use llunareth::{HEADER_NUMBERS, MEMBER_NUMBERS, STOREY_NUMBERS};
 
 const SEED: u64 = 20_260_121;
-const SURVEYS: usize = 1_500;
+const SURVEYS: usize = 3_000;
 
 /// A kind of record and two of its fields, counted from 1.
 type Exchange = (char, usize, usize);
@@ -47,9 +49,14 @@ fn untold<A: PartialEq>(mut left: Vec<Exchange>, surveys: &[Survey], answer: imp
     left
 }
 
+/// Surveys in four cases, where every field holds something.
 fn surveys() -> Vec<Survey> {
     let mut rng = Rng::new(SEED);
-    (0..SURVEYS).map(|_| valid_survey(&mut rng)).collect()
+    (0..SURVEYS).map(|_| valid_survey_of(&mut rng, CASE_FORM)).collect()
+}
+
+fn all_exchanges() -> Vec<Exchange> {
+    [exchanges('B', HEADER_NUMBERS), exchanges('S', STOREY_NUMBERS), exchanges('M', MEMBER_NUMBERS)].concat()
 }
 
 /// The larger tilt counts, whichever it is.
@@ -61,9 +68,8 @@ fn records_handed_to_the_call_on_a_building() {
     for survey in &surveys {
         assert_eq!(same_building(survey), None);
     }
-    let all = [exchanges('B', 6), exchanges('S', 3), exchanges('M', 26)].concat();
     let answer = |s: &Survey| independent::judge_building(&s.header, &s.storeys, &s.members);
-    assert_eq!(untold(all, &surveys, answer), [TILTS]);
+    assert_eq!(untold(all_exchanges(), &surveys, answer), [TILTS]);
 }
 
 #[test]
@@ -72,9 +78,8 @@ fn records_handed_to_the_report() {
     for survey in &surveys {
         assert_eq!(same_report(survey, sheet_len(survey)), None);
     }
-    let all = [exchanges('B', 6), exchanges('S', 3), exchanges('M', 26)].concat();
     let answer = |s: &Survey| independent::report(&s.header, &s.storeys, &s.members, usize::MAX);
-    assert_eq!(untold(all, &surveys, answer), [TILTS]);
+    assert_eq!(untold(all_exchanges(), &surveys, answer), [TILTS]);
 }
 
 /// The first storey, with as many members as it has.
@@ -86,13 +91,13 @@ fn first(survey: &Survey) -> (u64, Storey, &[Member]) {
 fn records_handed_to_the_call_on_a_storey() {
     let mut surveys = surveys();
     for survey in &mut surveys {
-        survey.members.truncate(survey.storeys[0].member_count as usize);
+        survey.members.truncate(survey.storeys[0].count as usize);
         let (k, s, own) = first(survey);
-        assert_eq!(same_storey(k, &s, own), None);
+        assert_eq!(same_storey(k, CASE_FORM, &s, own), None);
     }
     let answer = |survey: &Survey| {
         let (k, s, own) = first(survey);
-        independent::judge_storey(k, &s, own)
+        independent::judge_storey(k, CASE_FORM, &s, own)
     };
-    assert_eq!(untold([exchanges('S', 3), exchanges('M', 26)].concat(), &surveys, answer), []);
+    assert_eq!(untold([exchanges('S', STOREY_NUMBERS), exchanges('M', MEMBER_NUMBERS)].concat(), &surveys, answer), []);
 }

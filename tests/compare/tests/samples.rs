@@ -1,12 +1,13 @@
-//! The samples: each sheet is what both programs print, and shows what the sample is named for.
+//! The samples: each survey is what its description makes, each sheet what both programs print, and shows what the sample is named for.
 use compare::samples::{self, Sample};
-use compare::{refusal_told, same_determine, worked_example, WORKED_SHEET};
-use generator::write_survey;
+use compare::{refusal_told, same_determine, surveys, worked_example, worked_example_in_cases, FILE_REFUSALS, WORKED_SHEET, WORKED_SHEET_IN_CASES};
+use generator::{write_survey, INPUT_MOST};
+use independent::lines::{cases_of, CASE_FORM, OLD_FORM};
 use independent::{judge_member, judge_storey, Member, Storey, Survey};
 use std::fs;
 
 /// More bytes than any sample's sheet has.
-const ROOM: usize = 10_000;
+const ROOM: usize = 30_000;
 
 /// The one sample whose name begins so.
 fn named(start: &str) -> Sample {
@@ -27,14 +28,33 @@ fn printed(sample: &Sample, tag: char) -> Vec<Vec<u64>> {
     text.lines().filter_map(|line| line.strip_prefix(tag)).map(fields).collect()
 }
 
-/// A member and its printed line.
+/// A member and its printed line, without the case number.
 type Judged = (Member, Vec<u64>);
 
-/// Each storey with its members.
-fn storeys(sample: &Sample) -> Vec<(Storey, Vec<Judged>)> {
+/// A storey in a load case, counted from 0, with its members.
+struct Floor {
+    storey: Storey,
+    case: usize,
+    members: Vec<Judged>,
+}
+
+/// Each storey in each case of the sample's form, in the order of the sheet.
+fn floors(sample: &Sample) -> Vec<Floor> {
     let survey = survey_of(sample);
-    let mut rest = survey.members.into_iter().zip(printed(sample, 'M'));
-    survey.storeys.into_iter().map(|s| (s, rest.by_ref().take(s.member_count as usize).collect())).collect()
+    let cases = cases_of(survey.header.form);
+    let (mut lines, mut rest) = (printed(sample, 'M').into_iter(), survey.members.into_iter());
+    let mut floors = Vec::new();
+    for storey in survey.storeys {
+        let own: Vec<Member> = rest.by_ref().take(storey.count as usize).collect();
+        for case in 0..cases {
+            let mut members: Vec<Judged> = own.iter().copied().zip(lines.by_ref()).collect();
+            if cases > 1 {
+                members.iter_mut().for_each(|(_, line)| assert_eq!(line.remove(0), case as u64 + 1));
+            }
+            floors.push(Floor { storey, case, members });
+        }
+    }
+    floors
 }
 
 #[test]
@@ -45,6 +65,17 @@ fn every_survey_has_its_sheet_and_its_line_in_the_readme() {
     let readme = fs::read_to_string(samples::folder().join("README.md")).expect("README.md");
     for name in names {
         assert_eq!(readme.matches(&format!("| `{name}` |")).count(), 1, "{name} in README.md");
+    }
+}
+
+#[test]
+fn every_survey_is_what_its_description_makes() {
+    let mut made = surveys::all();
+    made.sort();
+    let names: Vec<&str> = made.iter().map(|(name, _)| *name).collect();
+    assert_eq!(names, samples::names(".survey"));
+    for (name, survey) in made {
+        assert!(survey == samples::survey(name), "{name}");
     }
 }
 
@@ -67,11 +98,11 @@ fn each_class() {
 
 #[test]
 fn each_refusal() {
-    for number in 1..=8 {
+    for number in FILE_REFUSALS {
         let sample = named(&format!("refusal-{number}-"));
         let told = refusal_told(&sample.sheet).expect("a refusal");
-        assert_eq!((told.number, told.line == 0), (number, number == 8), "{}", sample.name);
-        assert_eq!(sample.survey.len() > 65_536, number == 8, "{}", sample.name);
+        assert_eq!((usize::from(told.number), told.line == 0), (number, number == 8), "{}", sample.name);
+        assert_eq!(sample.survey.len() > INPUT_MOST, number == 8, "{}", sample.name);
     }
 }
 
@@ -82,10 +113,13 @@ fn too_long_and_nothing_else() {
 }
 
 #[test]
-fn the_worked_example() {
-    let sample = named("worked-example");
-    assert_eq!(sample.survey, write_survey(&worked_example()));
-    assert_eq!(sample.sheet, WORKED_SHEET.as_bytes());
+fn the_worked_examples() {
+    let examples = [("worked-example", worked_example(), WORKED_SHEET), ("cases-worked-example", worked_example_in_cases(), WORKED_SHEET_IN_CASES)];
+    for (name, survey, sheet) in examples {
+        let sample = named(name);
+        assert_eq!(sample.survey, write_survey(&survey));
+        assert_eq!(sample.sheet, sheet.as_bytes());
+    }
 }
 
 #[test]
@@ -106,37 +140,74 @@ fn three_quarters(printed: u64, reduced: u64) -> bool {
     3 * printed / 4 <= reduced && 4 * reduced < 3 * (printed + 1)
 }
 
+/// Panics unless, in each storey and case, plain columns have their own limits and the strengthened one 3/4 of them. In each storey and case: how
+/// many plain columns are past the limits of the strengthened one.
+fn past_reduced(sample: &Sample) -> Vec<usize> {
+    let header = survey_of(sample).header;
+    let past = |floor: Floor| {
+        let (strengthened, plain): (Vec<Judged>, Vec<Judged>) = floor.members.into_iter().partition(|(m, _)| m.strengthened == 1);
+        let reduced = limits(&strengthened[0].1);
+        let is_past = |(m, line): &&Judged| {
+            let alone = judge_member(header.knowledge, header.form, [false; 4], m).expect("a good member")[floor.case];
+            assert_eq!(limits(line), (alone.m_limit, alone.rotation_limit));
+            assert!(three_quarters(line[3], reduced.0) && three_quarters(line[5], reduced.1), "{line:?}, reduced to {reduced:?}");
+            line[2] > reduced.0 && line[4] > reduced.1
+        };
+        plain.iter().filter(is_past).count()
+    };
+    floors(sample).into_iter().map(past).collect()
+}
+
 #[test]
 fn plain_columns_keep_their_limits_beside_a_strengthened_one() {
-    let sample = named("strengthened-column-first");
-    let k = survey_of(&sample).header.knowledge;
-    let mut past_reduced = 0;
-    for (_, members) in storeys(&sample) {
-        let (strengthened, plain): (Vec<Judged>, Vec<Judged>) = members.into_iter().partition(|(m, _)| m.strengthened == 1);
-        let reduced = limits(&strengthened[0].1);
-        for (m, line) in plain {
-            let alone = judge_member(k, false, &m).expect("a good member");
-            assert_eq!(limits(&line), (alone.m_limit, alone.rotation_limit));
-            assert!(three_quarters(line[3], reduced.0) && three_quarters(line[5], reduced.1), "{line:?}, reduced to {reduced:?}");
-            past_reduced += u32::from(line[2] > reduced.0 && line[4] > reduced.1);
-        }
+    for (name, past) in [("strengthened-column-first", vec![3, 0]), ("cases-strengthened-column-first", vec![3, 3, 3, 3, 0, 0, 0, 0])] {
+        let sample = named(name);
+        assert_eq!(past_reduced(&sample), past, "plain columns past the reduced limits");
+        assert_eq!(survey_of(&sample).members[0].strengthened, 1, "listed first");
+        assert_eq!(printed(&sample, 'B'), [[0, 0]], "not Risky");
     }
-    assert_eq!(past_reduced, 3, "plain columns past the reduced limits");
-    assert_eq!(survey_of(&sample).members[0].strengthened, 1, "listed first");
-    assert_eq!(printed(&sample, 'B'), [[0, 0]], "not Risky");
+}
+
+/// In each storey and case: the 0.40 condition; of each wall: boundary zone, m past its limit, over.
+fn walls_of(sample: &Sample) -> Vec<(bool, Vec<(u64, bool, u64)>)> {
+    let header = survey_of(sample).header;
+    let found = |floor: Floor| {
+        let records: Vec<Member> = floor.members.iter().map(|(m, _)| *m).collect();
+        let storey = judge_storey(header.knowledge, header.form, &floor.storey, &records).expect("a good storey");
+        let walls = floor.members.iter().filter(|(_, line)| line[1] == 4);
+        (storey.cases[floor.case].meets_wall_share, walls.map(|(m, line)| (m.boundary_zone, line[2] > line[3], line[6])).collect())
+    };
+    floors(sample).into_iter().map(found).collect()
 }
 
 #[test]
 fn walls_in_a_storey_that_meets_the_condition_and_in_one_that_does_not() {
-    let sample = named("walls");
-    let k = survey_of(&sample).header.knowledge;
-    // the condition; of each wall: boundary zone, m past its limit, over
-    let mut found = Vec::new();
-    for (s, members) in storeys(&sample) {
-        let records: Vec<Member> = members.iter().map(|(m, _)| *m).collect();
-        let met = judge_storey(k, &s, &records).expect("a good storey").meets_wall_share;
-        let walls = members.iter().filter(|(_, line)| line[1] == 4);
-        found.push((met, walls.map(|(m, line)| (m.boundary_zone, line[2] > line[3], line[6])).collect()));
+    let met = (true, vec![(1, false, 0), (0, true, 0)]);
+    let not_met = (false, vec![(1, false, 0), (0, true, 1)]);
+    assert_eq!(walls_of(&named("walls")), [met, not_met]);
+}
+
+#[test]
+fn walls_that_meet_the_condition_in_one_direction_only() {
+    let sample = named("cases-walls-one-direction");
+    let met = (true, vec![(1, false, 0), (0, true, 0)]);
+    let not_met = (false, vec![(1, false, 0), (0, true, 1)]);
+    assert_eq!(walls_of(&sample), [met.clone(), met, not_met.clone(), not_met]);
+    assert_eq!(printed(&sample, 'B'), [[0, 0]], "not Risky");
+}
+
+#[test]
+fn a_storey_that_is_risky_in_case_3_alone() {
+    let sample = named("cases-risky-in-case-3");
+    let risky: Vec<(u64, u64, u64)> = printed(&sample, 'S').iter().map(|s| (s[1], s[0], s[6])).collect();
+    assert_eq!(risky, [(1, 1, 0), (1, 2, 0), (1, 3, 1), (1, 4, 0), (2, 1, 0), (2, 2, 0), (2, 3, 0), (2, 4, 0)]);
+    assert_eq!(printed(&sample, 'B'), [[0, 1]]);
+}
+
+#[test]
+fn the_samples_in_cases_have_that_form() {
+    let accepted = samples::all().into_iter().filter_map(|s| Some((independent::read(&s.survey, 10, 320).ok()?.header.form, s.name)));
+    for (form, name) in accepted {
+        assert_eq!(form, if name.starts_with("cases-") { CASE_FORM } else { OLD_FORM }, "{name}");
     }
-    assert_eq!(found, [(true, vec![(1, false, 0), (0, true, 0)]), (false, vec![(1, false, 0), (0, true, 1)])]);
 }

@@ -1,10 +1,12 @@
 //! The writing call against the independent program, byte by byte, and both round trips of a file and its records.
 use compare::{
-    assert_left, at_edges, file_len, header_numbers, member_rows, pattern, read, same_file, samples, storey_rows, worked_example, write,
+    assert_left, at_edges, file, header_numbers, member_rows, pattern, read, same_file, samples, storey_rows, worked_example,
+    worked_example_in_cases, worked_examples, FORMS, RECORD_REFUSALS, REFUSALS,
 };
-use generator::{any_file, lent_bytes, surveys_at_rows, valid_survey, wild_survey, write_survey, Rng};
+use generator::{any_file, file_len, lent_bytes, surveys_at_rows, valid_survey, valid_survey_of, wild_survey, write_survey, Rng};
+use independent::lines::{CASE_FORM, OLD_FORM};
 use independent::{Header, Refusal, Survey};
-use llunareth::raw;
+use llunareth::{raw, HEADER_NUMBERS};
 
 const SEED: u64 = 20_261_116;
 const ELEVEN: Option<Refusal> = Some(Refusal { number: 11, line: 0 });
@@ -18,12 +20,6 @@ fn in_every_buffer(rng: &mut Rng, survey: &Survey) {
     for room in [0, rng.index(len), len - 1] {
         assert_eq!(same_file(survey, room), ELEVEN, "{room} bytes for {len}");
     }
-}
-
-/// The file of a good survey by the proved call.
-fn file(survey: &Survey) -> Vec<u8> {
-    let rows = member_rows(&survey.members).expect("good members");
-    write(&survey.header, &survey.storeys, &rows, &mut pattern(file_len(survey))).expect("accepted")
 }
 
 /// Writes a good survey, reads it back into rows that hold it, with and without some left over, and writes it again.
@@ -49,27 +45,29 @@ fn good_surveys() {
 #[test]
 fn every_row_of_the_tables() {
     let mut rng = Rng::new(SEED + 1);
-    for survey in surveys_at_rows() {
+    for survey in FORMS.into_iter().flat_map(surveys_at_rows) {
         in_every_buffer(&mut rng, &survey);
         round_trip(&survey);
     }
 }
 
 #[test]
-fn the_largest_survey() {
+fn the_largest_surveys() {
     let mut rng = Rng::new(SEED + 2);
-    for storeys in [1, 4, 10] {
-        let survey = at_edges(&mut rng, storeys);
-        in_every_buffer(&mut rng, &survey);
-        round_trip(&survey);
+    for (form, longest) in [(OLD_FORM, 420_310), (CASE_FORM, llunareth::WRITE_MOST)] {
+        for storeys in [1, 4, 10] {
+            let survey = at_edges(&mut rng, form, storeys);
+            in_every_buffer(&mut rng, &survey);
+            round_trip(&survey);
+        }
+        assert_eq!(file(&at_edges(&mut rng, form, 10)).len(), longest);
     }
-    assert_eq!(file(&at_edges(&mut rng, 10)).len(), llunareth::WRITE_MOST);
 }
 
 #[test]
 fn wild_surveys() {
     let mut rng = Rng::new(SEED + 3);
-    let mut seen = [0u32; 12];
+    let mut seen = [0u32; REFUSALS];
     for _ in 0..40_000 {
         let survey = wild_survey(&mut rng);
         let room = lent_bytes(&mut rng, file_len(&survey));
@@ -77,14 +75,14 @@ fn wild_surveys() {
             seen[refusal.number as usize] += 1;
         }
     }
-    assert!([1, 3, 4, 5, 7, 11].iter().all(|&n| seen[n] > 100), "refusals 1, 3, 4, 5, 7 and 11 come up: {seen:?}");
+    assert!(RECORD_REFUSALS.iter().chain(&[11]).all(|&n| seen[n] > 100), "refusals of records and 11 come up: {seen:?}");
 }
 
 /// 11 comes last: a survey with any other refusal has that one, also in an empty buffer.
 #[test]
 fn every_refusal_before_eleven() {
     let mut rng = Rng::new(SEED + 4);
-    let mut seen = [0u32; 12];
+    let mut seen = [0u32; REFUSALS];
     for _ in 0..10_000 {
         let survey = wild_survey(&mut rng);
         if let Some(refusal) = same_file(&survey, file_len(&survey)) {
@@ -92,7 +90,7 @@ fn every_refusal_before_eleven() {
             seen[refusal.number as usize] += 1;
         }
     }
-    assert!([1, 3, 4, 5, 7].iter().all(|&n| seen[n] > 30) && seen[11] == 0, "{seen:?}");
+    assert!(RECORD_REFUSALS.iter().all(|&n| seen[n] > 30) && seen[11] == 0, "{seen:?}");
 }
 
 /// Files, good and damaged: what is read from an accepted one is written as the same bytes.
@@ -120,7 +118,7 @@ fn samples_read_and_written() {
 #[test]
 fn a_minus_where_a_force_is_negative() {
     let mut survey = worked_example();
-    (survey.members[0].n_d, survey.members[1].n_k) = (-1, -999_999);
+    (survey.members[0].n_d, survey.members[1].cases[0].n_k) = (-1, -999_999);
     assert_eq!(file(&survey), write_survey(&survey));
     round_trip(&survey);
     let text = String::from_utf8(file(&survey)).expect("text");
@@ -128,32 +126,53 @@ fn a_minus_where_a_force_is_negative() {
     assert_eq!((&lines[2][137..145], &lines[3][145..153]), ("      -1", " -999999"));
 }
 
+/// In four cases N_D stands at the end of the M line, N_K after the case number of a D line.
+#[test]
+fn a_minus_in_each_case() {
+    for i in 0..4 {
+        let mut survey = worked_example_in_cases();
+        survey.members[0].n_d = -999_999;
+        survey.members[0].cases[i].n_k = -1;
+        assert_eq!(file(&survey), write_survey(&survey));
+        round_trip(&survey);
+        let text = String::from_utf8(file(&survey)).expect("text");
+        let lines: Vec<&str> = text.lines().collect();
+        assert_eq!((&lines[2][137..], &lines[3 + i][1..17]), (" -999999", format!("{:>8}      -1", i + 1).as_str()));
+    }
+}
+
 #[test]
 fn counts_that_would_overflow() {
-    let mut survey = valid_survey(&mut Rng::new(SEED + 6));
-    let room = file_len(&survey);
-    for count in [0, u64::MAX, u64::MAX - survey.members.len() as u64 + 1] {
-        survey.storeys[0].member_count = count;
-        assert_eq!(same_file(&survey, room), Some(Refusal::of_record(1)), "{count} members");
+    for form in FORMS {
+        let mut survey = valid_survey_of(&mut Rng::new(SEED + 6), form);
+        let room = file_len(&survey);
+        for count in [0, u64::MAX, u64::MAX - survey.members.len() as u64 + 1] {
+            survey.storeys[0].count = count;
+            assert_eq!(same_file(&survey, room), Some(Refusal::of_record(1)), "{count} members");
+        }
     }
 }
 
 #[test]
 fn a_survey_without_rows() {
-    let header = worked_example().header;
-    for (storey_count, number) in [(0, 3), (1, 1)] {
-        let survey = Survey { header: Header { storey_count, ..header }, ..Survey::default() };
-        assert_eq!(same_file(&survey, 300), Some(Refusal::of_record(number)));
+    for header in worked_examples().map(|(survey, _)| survey.header) {
+        for (storey_count, number) in [(0, 3), (1, 1)] {
+            let survey = Survey { header: Header { storey_count, ..header }, ..Survey::default() };
+            assert_eq!(same_file(&survey, 300), Some(Refusal::of_record(number)));
+        }
     }
 }
 
 #[test]
 fn a_header_with_a_missing_number_is_refused() {
-    let survey = worked_example();
-    let (header, storeys) = (header_numbers(&survey.header), storey_rows(&survey.storeys));
-    let rows = member_rows(&survey.members).expect("good members");
-    for n in 0..6 {
-        let call = |file: &mut Vec<u8>, out: &mut [u64]| raw::write(&header[..n], &storeys, &rows, file, out);
-        assert_eq!(assert_left(raw::WRITE_VALUES, &pattern(600), call), 1, "B with {n} fields");
+    for (survey, _) in worked_examples() {
+        let (header, storeys) = (header_numbers(&survey.header), storey_rows(&survey.storeys));
+        let rows = member_rows(&survey.members).expect("good members");
+        for n in 0..HEADER_NUMBERS {
+            let call = |file: &mut Vec<u8>, out: &mut [u64]| raw::write(&header[..n], &storeys, &rows, file, out);
+            // Without its count of storeys it is 1; without its form alone 3.
+            let number = if n == HEADER_NUMBERS - 1 { 3 } else { 1 };
+            assert_eq!(assert_left(raw::WRITE_VALUES, &pattern(file_len(&survey)), call), number, "B with {n} numbers");
+        }
     }
 }

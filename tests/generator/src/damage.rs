@@ -1,11 +1,13 @@
 //! Damaged files, and files of every kind.
 
+use crate::edges::range;
 use crate::rng::Rng;
+use crate::sizes::{bytes_of, INPUT_MOST};
 use crate::surveys::valid_survey;
 use crate::wild::wild_survey;
 use crate::writer::{number_field, raw_field, write_survey};
+use independent::lines::{b_line, d_line, m_line, s_line, Field, CASE_FORM, OLD_FORM};
 use independent::read;
-use independent::records::member_field_range;
 
 /// Lines with their LF; the last may lack it.
 type Lines = Vec<Vec<u8>>;
@@ -95,7 +97,10 @@ fn damage_once(rng: &mut Rng, bytes: Vec<u8>) -> Vec<u8> {
 fn damage_line(rng: &mut Rng, lines: &mut Lines) {
     let i = near_line(rng, lines.len());
     let j = rng.index(lines.len());
-    match rng.below(30) {
+    if rng.chance(25) && damage_cases(rng, lines) {
+        return;
+    }
+    match rng.below(32) {
         0 => {
             lines.remove(i);
         }
@@ -145,7 +150,92 @@ fn damage_line(rng: &mut Rng, lines: &mut Lines) {
             let line = lines[j].clone();
             lines.push(line);
         }
+        29 | 30 => other_form(rng, lines),
         _ => end_otherwise(rng, &mut lines[i]),
+    }
+}
+
+// ---- load cases ----
+
+/// Damage to one D line or to the order of several; false where there is none.
+fn damage_cases(rng: &mut Rng, lines: &mut Lines) -> bool {
+    let cases = with_tag(lines, b'D');
+    if cases.is_empty() {
+        return false;
+    }
+    let place = near_line(rng, cases.len());
+    let i = cases[place];
+    match rng.below(12) {
+        0 => {
+            lines.remove(i);
+        }
+        1 => {
+            let line = lines[i].clone();
+            lines.insert(i, line);
+        }
+        2 | 3 => {
+            // With a neighbour, or with any.
+            let other = if rng.chance(70) {
+                cases[place.saturating_sub(1)]
+            } else {
+                cases[rng.index(cases.len())]
+            };
+            lines.swap(i, other);
+        }
+        4..=7 => {
+            let number = rng.pick(&[1, 2, 3, 4, 1, 2, 3, 4, 0, 5, 10]);
+            put(&mut lines[i], 1, &number_field(number));
+            if rng.chance(30) {
+                // With something else wrong in the line, or in its member.
+                let j = rng.pick(&[i, i, i.saturating_sub(1)]);
+                out_of_range(rng, &mut lines[j]);
+            }
+        }
+        8 => change_length(rng, &mut lines[i]),
+        9 => {
+            // All cases of a member.
+            let member = lines[..i].iter().rposition(|l| l.first() == Some(&b'M'));
+            let from = member.map_or(i, |m| m + 1);
+            lines.drain(from..(from + 4).min(lines.len()));
+        }
+        10 => bad_writing(rng, &mut lines[i]),
+        _ => out_of_range(rng, &mut lines[i]),
+    }
+    true
+}
+
+/// An S, M or D line as the other form has it.
+fn other_form(rng: &mut Rng, lines: &mut Lines) {
+    let tag = rng.pick(b"SSSM");
+    let of_tag = with_tag(lines, tag);
+    if of_tag.is_empty() {
+        return;
+    }
+    let i = of_tag[near_line(rng, of_tag.len())];
+    let (old, cases) = match tag {
+        b'S' => (s_line(OLD_FORM), s_line(CASE_FORM)),
+        _ => (m_line(OLD_FORM), m_line(CASE_FORM)),
+    };
+    let now = fields_in(&lines[i]);
+    let due = if now == cases.fields.len() {
+        old.fields.len()
+    } else {
+        cases.fields.len()
+    };
+    // Fields are taken away before the last one, or put in there.
+    let last = 1 + 8 * now.saturating_sub(1);
+    if due < now {
+        let from = 1 + 8 * (due - 1);
+        lines[i].drain(from.min(last)..last);
+    } else {
+        let more = vec![number_field(1_000); due - now].concat();
+        lines[i].splice(last..last, more);
+    }
+    if tag == b'M' && due < now && rng.chance(50) {
+        let mut case = vec![b'D'];
+        case.extend(number_field(1).repeat(d_line().fields.len()));
+        case.push(b'\n');
+        lines.insert(i + 1, case);
     }
 }
 
@@ -155,7 +245,7 @@ fn odd_byte(rng: &mut Rng) -> u8 {
     match rng.below(4) {
         0 => rng.next() as u8,
         1 => b'0' + rng.below(10) as u8,
-        _ => rng.pick(b" 0-+\n\r\tBSME.,_\0\x0b\xff\xa0"),
+        _ => rng.pick(b" 0-+\n\r\tBSMDE.,_\0\x0b\xff\xa0"),
     }
 }
 
@@ -225,7 +315,7 @@ fn change_length(rng: &mut Rng, line: &mut Vec<u8>) {
 }
 
 fn change_tag(rng: &mut Rng, line: &mut [u8]) {
-    line[0] = rng.pick(b"BSMEbsm \n\0");
+    line[0] = rng.pick(b"BSMDEbsmd \n\0");
 }
 
 fn end_otherwise(rng: &mut Rng, line: &mut Vec<u8>) {
@@ -272,10 +362,17 @@ fn field_value(line: &[u8], field: usize) -> Option<i128> {
 }
 
 fn any_field(rng: &mut Rng, line: &[u8]) -> usize {
-    if line.first() == Some(&b'M') && rng.chance(15) {
-        return rng.pick(&[18, 19]);
+    let fields = fields_in(line);
+    if rng.chance(15) {
+        // N_D and N_K.
+        match line.first() {
+            Some(b'M') if fields >= 19 => return rng.pick(&[18, 19]),
+            Some(b'M') if fields >= 18 => return 18,
+            Some(b'D') if fields >= 2 => return 2,
+            _ => {}
+        }
     }
-    1 + rng.index(fields_in(line))
+    1 + rng.index(fields)
 }
 
 /// A field not written as it should be.
@@ -312,17 +409,23 @@ fn bad_writing(rng: &mut Rng, line: &mut [u8]) {
     put(line, field, &raw_field(text.as_bytes()));
 }
 
-/// Least and most of a field by its line's tag.
+/// Least and most of a field by its line's tag and length.
 fn range_of(line: &[u8], field: usize) -> (i128, i128) {
-    match (line.first(), field) {
-        (Some(b'M'), _) => member_field_range(field),
-        (Some(b'S'), 3) => (1, 200),
-        (Some(b'S'), _) => (1, 9_999_999),
-        (Some(b'B'), 1) => (90, 100),
-        (Some(b'B'), 2) => (1, 99_999),
-        (Some(b'B'), 3) => (1, 99),
-        (Some(b'B'), 6) => (1, field_value(line, 3).unwrap_or(1)),
-        _ => (0, 9_999_999),
+    let kinds = [
+        b_line(),
+        s_line(OLD_FORM),
+        s_line(CASE_FORM),
+        m_line(OLD_FORM),
+        m_line(CASE_FORM),
+        d_line(),
+    ];
+    let kind = kinds
+        .into_iter()
+        .find(|kind| line.first() == Some(&kind.tag) && fields_in(line) == kind.fields.len());
+    match kind.map(|kind| kind.fields[field - 1]) {
+        Some(Field::StoreyCount) => (1, field_value(line, 3).unwrap_or(1)),
+        Some(field) => range(field),
+        None => (0, 9_999_999),
     }
 }
 
@@ -348,7 +451,7 @@ fn count_lies(rng: &mut Rng, lines: &mut Lines) {
     } else {
         storeys[rng.index(storeys.len())]
     };
-    let field = if of_header { 6 } else { 3 };
+    let field = if of_header { 6 } else { fields_in(&lines[i]) };
     let count = field_value(&lines[i], field).unwrap_or(1);
     let value = match rng.below(6) {
         0 | 1 => count + 1,
@@ -367,9 +470,10 @@ fn repeat_number(rng: &mut Rng, lines: &mut Lines, i: usize) {
     };
     let mut earlier: Vec<usize> = Vec::new();
     for j in (0..i).rev() {
-        if lines[j].first() == Some(&tag) {
+        let other = lines[j].first();
+        if other == Some(&tag) {
             earlier.push(j);
-        } else if tag == b'M' && rng.chance(90) {
+        } else if tag == b'M' && other != Some(&b'D') && rng.chance(90) {
             break;
         }
     }
@@ -414,13 +518,21 @@ fn any_bytes(rng: &mut Rng) -> Vec<u8> {
     let length = match rng.below(3) {
         0 => rng.index(10),
         1 => rng.index(300),
-        _ => rng.pick(&[49, 50, 51, 26, 76, 210, 286]),
+        _ => rng.pick(&[
+            49,
+            50,
+            51,
+            bytes_of(OLD_FORM, 1, 0),
+            bytes_of(OLD_FORM, 1, 1),
+            bytes_of(CASE_FORM, 1, 0),
+            bytes_of(CASE_FORM, 1, 1),
+        ]),
     };
     let near = rng.chance(60);
     (0..length)
         .map(|_| {
             if near {
-                rng.pick(b"BSM    0123456789-\n\n")
+                rng.pick(b"BSMD    0123456789-\n\n")
             } else {
                 rng.next() as u8
             }
@@ -448,11 +560,11 @@ pub fn any_file(rng: &mut Rng) -> Vec<u8> {
             bytes
         }
         96 | 97 => {
-            let length = rng.pick(&[65_535, 65_536, 65_536]);
+            let length = rng.pick(&[INPUT_MOST - 1, INPUT_MOST, INPUT_MOST]);
             filled_to(rng, length)
         }
         _ => {
-            let length = rng.pick(&[65_537, 65_537, 65_538, 66_000, 131_072]);
+            let length = INPUT_MOST + rng.pick(&[1, 1, 2, 464, INPUT_MOST]);
             filled_to(rng, length)
         }
     }

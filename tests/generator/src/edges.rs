@@ -1,41 +1,77 @@
 //! Members whose values lie at, or one beside, the edges of the rules.
 
+use crate::cases::one_case;
 use crate::rng::Rng;
 use independent::judge_member;
-use independent::records::{member_field_range, MEMBER_FIELDS};
-use independent::Member;
+use independent::lines::{cases_of, Field, HEADER, LOAD_CASE, MEMBER, OLD_FORM};
+use independent::{LoadCase, Member};
 
-/// A valid record at the edges of the rules, for either k.
-pub fn edge_member(rng: &mut Rng) -> Member {
+/// A valid record of a form at the edges of the rules, for either k.
+pub fn edge_member(rng: &mut Rng, form: u64) -> Member {
     let k = rng.pick(&[90, 100]);
-    edge_member_for(rng, k)
+    edge_member_for(rng, k, form)
 }
 
-/// A valid record at the edges of the rules for this k.
-pub fn edge_member_for(rng: &mut Rng, k: u64) -> Member {
+/// A valid record of a form at the edges of the rules for this k: each case
+/// made for the same section, or the one before again.
+pub fn edge_member_for(rng: &mut Rng, k: u64, form: u64) -> Member {
     let mut m = match rng.below(20) {
         0 => extreme(rng),
-        1..=11 => column(rng, k),
-        _ => wall(rng, k),
+        1..=11 => column(rng),
+        _ => wall(rng),
     };
-    demands(rng, k, &mut m);
+    for i in 0..cases_of(form) {
+        m.cases[i] = match i {
+            1.. if rng.chance(15) => m.cases[i - 1],
+            _ => load_case(rng, k, &m),
+        };
+    }
     m
 }
 
-/// Every field anywhere in its range, mostly at the ends.
-fn extreme(rng: &mut Rng) -> Member {
-    let mut fields = [0; MEMBER_FIELDS];
-    for i in 0..MEMBER_FIELDS {
-        let (least, most) = member_field_range(i + 1);
-        fields[i] = rng.spread(least, most);
-    }
-    if fields[2] > fields[1] {
-        fields.swap(1, 2);
-    }
-    Member::from_fields(&fields)
+/// A load case of a member at the edges of the rules for this k.
+pub fn load_case(rng: &mut Rng, k: u64, m: &Member) -> LoadCase {
+    let mut load = match rng.below(20) {
+        0 => LoadCase::from_values(&anywhere(rng, &LOAD_CASE)),
+        _ if is_wall(m) => wall_load(rng, k, m),
+        _ => column_load(rng, k, m),
+    };
+    demands(rng, k, m, &mut load);
+    load
 }
 
-/// An ordinary record to start from.
+/// Long side at least five times the short side.
+pub fn is_wall(m: &Member) -> bool {
+    m.long_side >= 5 * m.short_side
+}
+
+/// Least and most of a field that has them in itself.
+pub fn range(field: Field) -> (i128, i128) {
+    match field {
+        Field::Within(least, most) => (least, most),
+        Field::Knowledge => (90, 100),
+        Field::StoreyCount => (1, range(HEADER[2]).1),
+    }
+}
+
+/// Every field anywhere in its range, mostly at the ends.
+fn anywhere(rng: &mut Rng, fields: &[Field]) -> Vec<i128> {
+    let spread = |&field| {
+        let (least, most) = range(field);
+        rng.spread(least, most)
+    };
+    fields.iter().map(spread).collect()
+}
+
+fn extreme(rng: &mut Rng) -> Member {
+    let mut values = anywhere(rng, &MEMBER);
+    if values[2] > values[1] {
+        values.swap(1, 2);
+    }
+    Member::from_values(&values, Default::default())
+}
+
+/// An ordinary record to start from, without a case.
 fn ordinary(rng: &mut Rng) -> Member {
     let n = |rng: &mut Rng, least, most| rng.between(least, most) as u64;
     Member {
@@ -56,15 +92,18 @@ fn ordinary(rng: &mut Rng) -> Member {
         strengthened: rng.chance(30) as u64,
         factor: factor(rng),
         damage_kind: if rng.chance(10) { n(rng, 1, 4) } else { 0 },
-        n_d: 0,
-        n_k: 0,
-        m_e: 0,
+        ..Member::default()
+    }
+}
+
+/// A case without moment, rotation and shear demand.
+fn ordinary_load(rng: &mut Rng) -> LoadCase {
+    LoadCase {
         m_p: 1,
-        v_e: 0,
         v_r: 1,
-        v: n(rng, 0, 500),
-        rotation: 0,
+        v: rng.between(0, 500) as u64,
         drift: drift(rng),
+        ..LoadCase::default()
     }
 }
 
@@ -83,18 +122,23 @@ fn drift(rng: &mut Rng) -> u64 {
 
 // ---- columns ----
 
-fn column(rng: &mut Rng, k: u64) -> Member {
+/// n at the rows of columns, and half way.
+const COLUMN_ROWS: [i128; 6] = [10_000, 60_000, 70_000, 100_000, 35_000, 85_000];
+
+fn column(rng: &mut Rng) -> Member {
     let mut m = ordinary(rng);
     column_sides(rng, &mut m);
     concrete(rng, &mut m);
     hoops(rng, &mut m);
-    column_shear(rng, k, &mut m);
-    axial_forces(
-        rng,
-        &mut m,
-        &[10_000, 60_000, 70_000, 100_000, 35_000, 85_000],
-    );
+    m.n_d = axial_force(rng, &m, &COLUMN_ROWS);
     m
+}
+
+fn column_load(rng: &mut Rng, k: u64, m: &Member) -> LoadCase {
+    let mut load = ordinary_load(rng);
+    column_shear(rng, k, &mut load);
+    load.n_k = axial_force(rng, m, &COLUMN_ROWS);
+    load
 }
 
 fn column_sides(rng: &mut Rng, m: &mut Member) {
@@ -198,7 +242,7 @@ fn hoop_condition(rng: &mut Rng, m: &mut Member) {
 }
 
 /// 1000 x V_e at 7 x k x V_r or 11 x k x V_r, or one beside.
-fn column_shear(rng: &mut Rng, k: u64, m: &mut Member) {
+fn column_shear(rng: &mut Rng, k: u64, load: &mut LoadCase) {
     let v_r = match rng.below(4) {
         0 => 100 * rng.between(1, 30),
         1 => 1_000 * rng.between(1, 100),
@@ -213,19 +257,29 @@ fn column_shear(rng: &mut Rng, k: u64, m: &mut Member) {
         8 => rng.beside(k as i128 * v_r / 100),
         _ => rng.spread(0, 9_999_999),
     };
-    m.v_r = v_r as u64;
-    m.v_e = v_e.clamp(0, 9_999_999) as u64;
+    load.v_r = v_r as u64;
+    load.v_e = v_e.clamp(0, 9_999_999) as u64;
 }
 
 // ---- walls ----
 
-fn wall(rng: &mut Rng, k: u64) -> Member {
+/// n at the rows of walls, and half way.
+const WALL_ROWS: [i128; 3] = [10_000, 25_000, 17_500];
+
+fn wall(rng: &mut Rng) -> Member {
     let mut m = ordinary(rng);
     wall_sides(rng, &mut m);
     concrete(rng, &mut m);
-    wall_shear(rng, k, &mut m);
-    axial_forces(rng, &mut m, &[10_000, 25_000, 17_500]);
+    web(rng, &mut m);
+    m.n_d = axial_force(rng, &m, &WALL_ROWS);
     m
+}
+
+fn wall_load(rng: &mut Rng, k: u64, m: &Member) -> LoadCase {
+    let mut load = ordinary_load(rng);
+    wall_shear(rng, k, m, &mut load);
+    load.n_k = axial_force(rng, m, &WALL_ROWS);
+    load
 }
 
 fn wall_sides(rng: &mut Rng, m: &mut Member) {
@@ -251,16 +305,21 @@ fn wall_sides(rng: &mut Rng, m: &mut Member) {
     m.h_w = height.clamp(1, 99_999) as u64;
 }
 
-/// v at or beside a row, and 100 x V_e at or beside k x V_r.
-fn wall_shear(rng: &mut Rng, k: u64, m: &mut Member) {
+/// d and f_ctm: v in whole steps of V_e, or any.
+fn web(rng: &mut Rng, m: &mut Member) {
     let short = m.short_side as i128;
     let (d, f_ctm) = match rng.below(10) {
         0..=3 if 1_000_000 % short == 0 => (1_000_000 / short * rng.between(1, 3), 1_000),
         9 => (rng.spread(1, 99_999), rng.spread(1, 9_999)),
         _ => (rng.between(1_000, 10_000), rng.between(80, 4_000)),
     };
-    let d = d.clamp(1, 99_999);
-    let area = short * d * f_ctm;
+    m.d = d.clamp(1, 99_999) as u64;
+    m.f_ctm = f_ctm as u64;
+}
+
+/// v at or beside a row, and 100 x V_e at or beside k x V_r.
+fn wall_shear(rng: &mut Rng, k: u64, m: &Member, load: &mut LoadCase) {
+    let area = m.short_side as i128 * m.d as i128 * m.f_ctm as i128;
     let target = match rng.below(12) {
         0..=3 => rng.beside(90_000),
         4..=6 => rng.beside(130_000),
@@ -280,20 +339,13 @@ fn wall_shear(rng: &mut Rng, k: u64, m: &mut Member) {
         7 => rng.spread(1, 9_999_999),
         _ => 2 * even + 10,
     };
-    m.d = d as u64;
-    m.f_ctm = f_ctm as u64;
-    m.v_e = v_e as u64;
-    m.v_r = v_r.clamp(1, 9_999_999) as u64;
+    load.v_e = v_e as u64;
+    load.v_r = v_r.clamp(1, 9_999_999) as u64;
 }
 
 // ---- both ----
 
-/// N_K with n at or beside a row; N_D likewise.
-fn axial_forces(rng: &mut Rng, m: &mut Member, rows: &[i128]) {
-    m.n_k = axial_force(rng, m, rows);
-    m.n_d = axial_force(rng, m, rows);
-}
-
+/// A force with its axial ratio at or beside a row.
 fn axial_force(rng: &mut Rng, m: &Member, rows: &[i128]) -> i64 {
     match rng.below(20) {
         0 => rng.pick(&[0, -1, -999_999]),
@@ -322,27 +374,35 @@ pub(crate) fn force_for(m: &Member, target: i128) -> i64 {
 }
 
 /// Moment and rotation at or beside their limits.
-fn demands(rng: &mut Rng, k: u64, m: &mut Member) {
-    let Ok(found) = judge_member(k, false, m) else {
-        return;
-    };
+fn demands(rng: &mut Rng, k: u64, m: &Member, load: &mut LoadCase) {
+    let (m_limit, rotation_limit) = limits(k, m, load);
     if rng.chance(25) {
         // Well within the limits.
-        m.m_p = rng.between(100, 5_000) as u64;
-        m.m_e = m.m_p / 4;
-        m.rotation = found.rotation_limit / 2;
+        load.m_p = rng.between(100, 5_000) as u64;
+        load.m_e = load.m_p / 4;
+        load.rotation = rotation_limit / 2;
         return;
     }
-    moment(rng, k, m, found.m_limit as i128);
-    m.rotation = match rng.below(10) {
-        0..=5 => rng.beside(found.rotation_limit as i128).max(0) as u64,
+    moment(rng, k, load, m_limit as i128);
+    load.rotation = match rng.below(10) {
+        0..=5 => rng.beside(rotation_limit as i128).max(0) as u64,
         6 => 0,
         7 => rng.spread(0, 9_999_999) as u64,
         _ => rng.below(40_000),
     };
 }
 
-fn moment(rng: &mut Rng, k: u64, m: &mut Member, limit: i128) {
+/// The limits of m and rotation in a case.
+pub(crate) fn limits(k: u64, m: &Member, load: &LoadCase) -> (u64, u64) {
+    let alone = Member {
+        cases: one_case(*load),
+        ..*m
+    };
+    let found = judge_member(k, OLD_FORM, [false; 4], &alone).expect("a good member");
+    (found[0].m_limit, found[0].rotation_limit)
+}
+
+fn moment(rng: &mut Rng, k: u64, load: &mut LoadCase, limit: i128) {
     let m_p = match rng.below(4) {
         0 => 100_000,
         1 => 1_000_000,
@@ -353,13 +413,13 @@ fn moment(rng: &mut Rng, k: u64, m: &mut Member, limit: i128) {
         7 => rng.pick(&[9_999_998, 9_999_999, 10_000_000]),
         8 => rng.between(0, 800_000),
         _ => {
-            m.m_p = rng.spread(1, 9_999_999) as u64;
-            m.m_e = rng.spread(0, 9_999_999) as u64;
+            load.m_p = rng.spread(1, 9_999_999) as u64;
+            load.m_e = rng.spread(0, 9_999_999) as u64;
             return;
         }
     };
     // The largest moment whose ratio does not pass the target.
     let m_e = target * k as i128 * m_p / 10_000_000;
-    m.m_p = m_p as u64;
-    m.m_e = m_e.clamp(0, 9_999_999) as u64;
+    load.m_p = m_p as u64;
+    load.m_e = m_e.clamp(0, 9_999_999) as u64;
 }

@@ -1,6 +1,11 @@
 //! Members at and one beside every row of the tables, whatever the seed.
 
-use independent::{judge_member, Header, Member, Storey, Survey};
+use crate::cases::one_case;
+use crate::edges::limits;
+use crate::sizes::members_most;
+use independent::lines::cases_of;
+use independent::{Header, LoadCase, Member, Storey, Survey};
+use std::array::from_fn;
 
 const COLUMN_AXIAL: [u64; 4] = [10_000, 60_000, 70_000, 100_000];
 const COLUMN_C_AXIAL: [u64; 2] = [70_000, 100_000];
@@ -15,18 +20,20 @@ const MARKS: [(u64, u64); 4] = [(0, 100), (1, 100), (0, 50), (1, 33)];
 const STEPS: [(i64, i64); 4] = [(0, 0), (1, 0), (0, 1), (-1, -1)];
 
 const K: u64 = 100;
-const MEMBERS: usize = 200;
 
 /// Surveys of one storey each, in which every class stands at and one beside
-/// each row of its tables, with m and rotation at and one beside their limits.
-/// Each storey comes twice: its walls below 0.40 of the storey shear, and above.
-pub fn surveys_at_rows() -> Vec<Survey> {
-    let members = members_at_rows();
-    let of_shear = |shear| members.chunks(MEMBERS).map(move |own| survey(shear, own));
-    of_shear(1_000).chain(of_shear(1)).collect()
+/// each row of its tables, with m and rotation at and one beside their limits,
+/// in each case. Each storey comes twice: its walls below 0.40 of the storey
+/// shear, and above; in four cases by turns.
+pub fn surveys_at_rows(form: u64) -> Vec<Survey> {
+    let members = members_at_rows(form);
+    let storeys = members.chunks(members_most(form, 1));
+    let shears = [[1_000, 1, 1_000, 1], [1, 1_000, 1, 1_000]];
+    let twice = |own| shears.map(|shears| survey(form, shears, own));
+    storeys.flat_map(twice).collect()
 }
 
-fn survey(shear: u64, members: &[Member]) -> Survey {
+fn survey(form: u64, shears: [u64; 4], members: &[Member]) -> Survey {
     let numbered = (1..).zip(members);
     Survey {
         header: Header {
@@ -36,11 +43,12 @@ fn survey(shear: u64, members: &[Member]) -> Survey {
             tilt_1: 0,
             tilt_2: 0,
             storey_count: 1,
+            form,
         },
         storeys: vec![Storey {
             number: 1,
-            shear,
-            member_count: members.len() as u64,
+            shears: from_fn(|i| if i < cases_of(form) { shears[i] } else { 0 }),
+            count: members.len() as u64,
         }],
         members: numbered
             .map(|(number, m)| Member { number, ..*m })
@@ -48,10 +56,10 @@ fn survey(shear: u64, members: &[Member]) -> Survey {
     }
 }
 
-fn members_at_rows() -> Vec<Member> {
+fn members_at_rows(form: u64) -> Vec<Member> {
     let places = [columns_a(), columns_b(), columns_c(), walls_a(), walls_b()].concat();
     let marked = places.iter().flat_map(with_marks);
-    marked.flat_map(|m| at_limits(&m)).collect()
+    marked.flat_map(|m| at_limits(form, &m)).collect()
 }
 
 /// Each row and the value on either side.
@@ -84,10 +92,13 @@ fn column(n: u64, hoops: u64) -> Member {
         b_k: 1_000,
         a_sh: hoops,
         n_d: n as i64,
-        n_k: n as i64,
-        m_p: 100_000,
-        v_r: 10,
-        v: 1,
+        cases: one_case(LoadCase {
+            n_k: n as i64,
+            m_p: 100_000,
+            v_r: 10,
+            v: 1,
+            ..LoadCase::default()
+        }),
         ..Member::default()
     }
 }
@@ -108,23 +119,28 @@ fn columns_b() -> Vec<Member> {
 }
 
 fn columns_c() -> Vec<Member> {
-    let sheared = |n| Member {
-        v_e: 12,
-        ..column(n, 500)
+    let sheared = |n| {
+        let mut m = column(n, 500);
+        m.cases[0].v_e = 12;
+        m
     };
     beside(&COLUMN_C_AXIAL).into_iter().map(sheared).collect()
 }
 
 /// A wall of class A without boundary zone: v is V_e.
 fn wall(n: u64, stress: u64) -> Member {
+    let plain = column(n, 0);
     Member {
         long_side: 500,
         short_side: 100,
         f_ctm: 1_000,
         d: 10_000,
-        v_e: stress,
-        v_r: 200_000,
-        ..column(n, 0)
+        cases: one_case(LoadCase {
+            v_e: stress,
+            v_r: 200_000,
+            ..plain.cases[0]
+        }),
+        ..plain
     }
 }
 
@@ -158,13 +174,21 @@ fn with_marks(m: &Member) -> Vec<Member> {
     MARKS.iter().map(marked).collect()
 }
 
-/// The member with its demands at its limits and beside them.
-fn at_limits(m: &Member) -> Vec<Member> {
-    let limits = judge_member(K, false, m).expect("a good member");
-    let demanded = |&(m_step, rotation_step): &(i64, i64)| Member {
-        m_e: limits.m_limit.saturating_add_signed(m_step),
-        rotation: limits.rotation_limit.saturating_add_signed(rotation_step),
-        ..*m
+/// The member with its demands at its limits and beside them, in each case
+/// those of the next step.
+fn at_limits(form: u64, m: &Member) -> Vec<Member> {
+    let (m_limit, rotation_limit) = limits(K, m, &m.cases[0]);
+    let steps = STEPS.map(|(m_step, rotation_step)| LoadCase {
+        m_e: m_limit.saturating_add_signed(m_step),
+        rotation: rotation_limit.saturating_add_signed(rotation_step),
+        ..m.cases[0]
+    });
+    let from_step = |first: usize| {
+        let mut cases = one_case(steps[first]);
+        for i in 1..cases_of(form) {
+            cases[i] = steps[(first + i) % STEPS.len()];
+        }
+        Member { cases, ..*m }
     };
-    STEPS.iter().map(demanded).collect()
+    (0..STEPS.len()).map(from_step).collect()
 }

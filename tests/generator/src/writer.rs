@@ -1,5 +1,6 @@
 //! Writes survey files in the house columns, good or bad.
 
+use independent::lines::CASE_FORM;
 use independent::{Header, Member, Storey, Survey};
 
 /// A line in parts: each field's bytes as they will stand.
@@ -54,17 +55,31 @@ pub fn raw_field(text: &[u8]) -> Vec<u8> {
 /// The lines of a survey, whatever its values. Members go to the storeys by
 /// their counts as far as there are any; what is left follows the last storey.
 pub fn survey_lines(h: &Header, storeys: &[Storey], members: &[Member]) -> Vec<Line> {
-    let mut lines = vec![Line::new(b'B', &h.fields())];
+    let mut lines = vec![Line::new(b'B', &h.values())];
     let mut rest = members.iter();
     for s in storeys {
-        lines.push(Line::new(b'S', &s.fields()));
-        let count = s.member_count.min(members.len() as u64) as usize;
+        lines.push(Line::new(b'S', &s.values(h.form)));
+        let count = s.count.min(members.len() as u64) as usize;
         for m in rest.by_ref().take(count) {
-            lines.push(Line::new(b'M', &m.fields()));
+            lines.extend(member_lines(h.form, m));
         }
     }
     for m in rest {
-        lines.push(Line::new(b'M', &m.fields()));
+        lines.extend(member_lines(h.form, m));
+    }
+    lines
+}
+
+/// The M line, in four cases with its D lines.
+pub fn member_lines(form: u64, m: &Member) -> Vec<Line> {
+    let once = m.values();
+    if form != CASE_FORM {
+        let values = [&once[..], &m.cases[0].values()].concat();
+        return vec![Line::new(b'M', &values)];
+    }
+    let mut lines = vec![Line::new(b'M', &once)];
+    for (number, case) in (1..).zip(&m.cases) {
+        lines.push(Line::new(b'D', &[&[number][..], &case.values()].concat()));
     }
     lines
 }

@@ -1,7 +1,8 @@
 //! What the generator makes: accepted surveys, every refusal, every edge.
 
 use generator::*;
-use independent::records::{check_header, check_member, check_storey};
+use independent::lines::{b_line, cases_of, d_line, m_line, s_line, Line as Kind};
+use independent::lines::{CASE_FORM, LOAD_CASE, MEMBER, OLD_FORM};
 use independent::{determine, judge_building, judge_member, judge_storey, read, report};
 use std::collections::{BTreeMap, BTreeSet};
 
@@ -9,26 +10,27 @@ use std::collections::{BTreeMap, BTreeSet};
 fn same_seed_same_input() {
     for seed in 0..200 {
         assert_eq!(any_file(&mut Rng::new(seed)), any_file(&mut Rng::new(seed)));
-        assert_eq!(
-            edge_member(&mut Rng::new(seed)),
-            edge_member(&mut Rng::new(seed))
-        );
+        for form in [OLD_FORM, CASE_FORM] {
+            assert_eq!(
+                edge_member(&mut Rng::new(seed), form),
+                edge_member(&mut Rng::new(seed), form)
+            );
+        }
     }
     assert_ne!(any_file(&mut Rng::new(1)), any_file(&mut Rng::new(2)));
 }
 
-#[test]
-fn valid_surveys_are_accepted() {
+fn valid_surveys_are_accepted(form: u64) {
     let (mut risky, mut sound, mut largest) = (0, 0, 0);
-    for seed in 0..3_000 {
-        let survey = valid_survey(&mut Rng::new(seed));
+    for seed in 0..2_000 {
+        let survey = valid_survey_of(&mut Rng::new(seed), form);
         let Survey {
             header,
             storeys,
             members,
         } = &survey;
         let file = write_survey(&survey);
-        assert!(file.len() <= 65_536);
+        assert!(file.len() <= INPUT_MOST && file.len() == file_len(&survey));
         largest = largest.max(file.len());
         assert_eq!(
             read(&file, storeys.len(), members.len()),
@@ -43,57 +45,79 @@ fn valid_surveys_are_accepted() {
             sound += 1;
         }
         let sheet = report(header, storeys, members, usize::MAX).unwrap();
+        assert_eq!(sheet.len(), sheet_len(&survey));
         assert_eq!(determine(&file), sheet);
     }
-    assert!(risky > 300 && sound > 300, "{} risky, {} not", risky, sound);
-    assert!(largest > 65_536 - 210, "{}", largest);
+    assert!(risky > 200 && sound > 200, "{} risky, {} not", risky, sound);
+    assert!(largest > INPUT_MOST - member_bytes(form), "{}", largest);
+}
+
+#[test]
+fn valid_surveys_of_the_old_form() {
+    valid_surveys_are_accepted(OLD_FORM);
+}
+
+#[test]
+fn valid_surveys_in_cases() {
+    valid_surveys_are_accepted(CASE_FORM);
+}
+
+#[test]
+fn half_the_surveys_are_in_cases() {
+    let forms = (0..1_000).map(|seed| valid_survey(&mut Rng::new(seed)).header.form);
+    let cases = forms.filter(|&form| form == CASE_FORM).count();
+    assert!((400..600).contains(&cases), "{} of 1,000", cases);
 }
 
 #[test]
 fn every_refusal_of_a_file() {
     let mut seen: BTreeMap<u8, u64> = BTreeMap::new();
-    let (mut accepted, mut too_long) = (0, 0);
+    let (mut accepted, mut too_long) = ([0, 0], 0);
     for seed in 0..6_000 {
         let mut rng = Rng::new(seed);
         let file = any_file(&mut rng);
         let (storey_rows, member_rows) = lent_rows(&mut rng, &file);
         match read(&file, storey_rows, member_rows) {
-            Ok(_) => accepted += 1,
+            Ok(survey) => accepted[survey.header.form as usize - 1] += 1,
             Err(refusal) => {
                 assert!(refusal.line >= 1);
                 *seen.entry(refusal.number).or_default() += 1;
             }
         }
         let out = determine(&file);
-        if file.len() > 65_536 {
+        if file.len() > INPUT_MOST {
             too_long += 1;
             assert_eq!(out, format!("E{:>12}{:>12}\n", 8, 0).into_bytes());
         }
     }
-    assert!(accepted > 1_000 && too_long > 30);
-    for number in 1..=8 {
+    assert!(accepted.iter().all(|&n| n > 500) && too_long > 30);
+    for number in FILE_REFUSALS {
         let count = seen.get(&number).copied().unwrap_or(0);
         assert!(count >= 30, "refusal {} came up {} times", number, count);
     }
-    assert_eq!(seen.len(), 8);
+    assert_eq!(seen.len(), FILE_REFUSALS.len());
 }
+
+/// What a file may be refused by.
+const FILE_REFUSALS: [u8; 9] = [1, 2, 3, 4, 5, 6, 7, 8, 12];
 
 #[test]
 fn wild_records_are_refused() {
     let mut seen: BTreeMap<u8, u64> = BTreeMap::new();
     for seed in 0..3_000 {
         let mut rng = Rng::new(seed);
+        let form = any_form(&mut rng);
         let (m, s, h) = (
-            wild_member(&mut rng),
-            wild_storey(&mut rng),
+            wild_member(&mut rng, form),
+            wild_storey(&mut rng, form),
             wild_header(&mut rng),
         );
-        assert!(check_member(&m).is_err());
-        assert!(check_storey(&s).is_err());
+        assert!(check_member(form, &m).is_err());
+        assert!(check_storey(form, &s).is_err());
         assert!(check_header(&h).is_err());
         for k in [90, 100, rng.next()] {
-            assert!(judge_member(k, true, &m).is_err());
-            assert!(judge_storey(k, &s, &[m]).is_err());
+            assert!(judge_member(k, form, [true; 4], &m).is_err());
+            assert!(judge_storey(k, form, &s, &[m]).is_err());
         }
         assert!(judge_building(&h, &[s], &[m]).is_err());
 
@@ -116,33 +140,65 @@ fn wild_records_are_refused() {
     }
 }
 
+/// Every field of a record out of its range, and every field of a case that the
+/// old form lacks not 0.
+#[test]
+fn every_field_is_spoilt() {
+    let mut t = Tally::default();
+    for form in [OLD_FORM, CASE_FORM] {
+        for seed in 0..4_000 {
+            let mut rng = Rng::new(seed);
+            let m = wild_member(&mut rng, form);
+            for (j, (field, value)) in MEMBER.iter().zip(m.values()).enumerate() {
+                t.note(&format!("{form} M {j}"), !field.allows(value, &[]));
+            }
+            for (i, case) in m.cases.iter().enumerate() {
+                for (j, (field, value)) in LOAD_CASE.iter().zip(case.values()).enumerate() {
+                    let present = i < cases_of(form);
+                    let bad = if present {
+                        !field.allows(value, &[])
+                    } else {
+                        value != 0
+                    };
+                    t.note(&format!("{form} case {i} field {j}"), bad);
+                }
+            }
+            let s = wild_storey(&mut rng, form);
+            for (i, &shear) in s.shears.iter().enumerate() {
+                let good = if i < cases_of(form) {
+                    1..=9_999_999
+                } else {
+                    0..=0
+                };
+                t.note(&format!("{form} shear {i}"), !good.contains(&shear));
+            }
+            let h = wild_header(&mut rng);
+            t.note("form", h.form != OLD_FORM && h.form != CASE_FORM);
+        }
+    }
+    t.all_hit(10);
+}
+
 // ---- orders of refusal ----
 
+/// The lines of a good survey of a form with one member.
+fn good_lines(form: u64) -> Vec<Line> {
+    let ones = LoadCase::from_values(&[1; 8]);
+    let mut values = [1; 18];
+    values[1] = 99_999;
+    let mut cases = one_case(ones);
+    cases[..cases_of(form)].fill(ones);
+    let mut storey = Storey::from_values(&[1; 6], form);
+    storey.count = 1;
+    let header = Header::from_values(&[100, 1, 10, 0, 0, 1], form);
+    survey_lines(&header, &[storey], &[Member::from_values(&values, cases)])
+}
+
 /// 2 or 3 if this field of a line is refused by itself, else 0.
-fn fault_of_field(line: &[u8], field: usize) -> u8 {
+fn fault_of_field(form: u64, line: &[u8], field: usize) -> u8 {
     let tag = line[0];
     let text = |field: usize| &line[1 + (field - 1) * 8..1 + field * 8];
-    let survey = Survey {
-        header: Header {
-            knowledge: 100,
-            height: 1,
-            storeys_above_ground: 10,
-            tilt_1: 0,
-            tilt_2: 0,
-            storey_count: 1,
-        },
-        storeys: vec![Storey {
-            number: 1,
-            shear: 1,
-            member_count: 1,
-        }],
-        members: vec![Member::from_fields(&{
-            let mut fields = [1; 26];
-            fields[1] = 99_999;
-            fields
-        })],
-    };
-    let mut lines = survey_lines(&survey.header, &survey.storeys, &survey.members);
+    let mut lines = good_lines(form);
     let i = lines.iter().position(|line| line.tag == tag).unwrap();
     if tag == b'B' && field == 6 {
         // The last field runs to n_s.
@@ -156,10 +212,10 @@ fn fault_of_field(line: &[u8], field: usize) -> u8 {
 }
 
 /// The refusals of 2 and 3 in a line of the right length, from the left.
-fn faults_of_fields(line: &[u8]) -> Vec<u8> {
+fn faults_of_fields(form: u64, line: &[u8]) -> Vec<u8> {
     let fields = (line.len() - 2) / 8;
     (1..=fields)
-        .map(|field| fault_of_field(line, field))
+        .map(|field| fault_of_field(form, line, field))
         .filter(|&number| number != 0)
         .collect()
 }
@@ -169,32 +225,56 @@ fn value(line: &[u8], field: usize) -> i128 {
     text.trim().parse().unwrap_or(0)
 }
 
+/// The lines of a form.
+fn kinds(form: u64) -> Vec<Kind> {
+    let mut kinds = vec![b_line(), s_line(form), m_line(form)];
+    if form == CASE_FORM {
+        kinds.push(d_line());
+    }
+    kinds
+}
+
+/// The form that line 2 tells.
+fn form_of(lines: &[&[u8]]) -> u64 {
+    let tells = |line: &&[u8]| line.len() == s_line(CASE_FORM).length();
+    if lines.get(1).is_some_and(tells) {
+        CASE_FORM
+    } else {
+        OLD_FORM
+    }
+}
+
 /// All that could be refused in this line, in the order of the paper.
 fn faults_of_line(lines: &[&[u8]], i: usize, rows: (usize, usize)) -> Vec<u8> {
-    let line = lines[i];
-    let right = matches!((line[0], line.len()), (b'B', 50) | (b'S', 26) | (b'M', 210));
-    if !right || line[line.len() - 1] != b'\n' {
+    let (line, form) = (lines[i], form_of(lines));
+    let due = |kind: Kind| kind.tag == line[0] && kind.length() == line.len();
+    if !kinds(form).into_iter().any(due) || line[line.len() - 1] != b'\n' {
         return Vec::new();
     }
+    let tag = line[0];
     let mut faults = Vec::new();
-    let before = lines[..i].iter().filter(|l| l[0] == line[0]).count();
-    let lent = if line[0] == b'S' { rows.0 } else { rows.1 };
-    if line[0] != b'B' && before >= lent {
+    let before = lines[..i].iter().filter(|l| l[0] == tag).count();
+    let lent = if tag == b'S' { rows.0 } else { rows.1 };
+    if (tag == b'S' || tag == b'M') && before >= lent {
         faults.push(8);
     }
-    faults.extend(faults_of_fields(line));
-    if line[0] == b'M' && value(line, 3) > value(line, 2) {
+    faults.extend(faults_of_fields(form, line));
+    if tag == b'M' && value(line, 3) > value(line, 2) {
         faults.push(4);
     }
     let mut earlier = lines[..i]
         .iter()
         .rev()
-        .take_while(|l| line[0] == b'S' || l[0] == b'M');
-    if line[0] != b'B' && earlier.any(|l| l[0] == line[0] && l[1..9] == line[1..9]) {
+        .take_while(|l| tag == b'S' || l[0] == b'M' || l[0] == b'D');
+    if (tag == b'S' || tag == b'M') && earlier.any(|l| l[0] == tag && l[1..9] == line[1..9]) {
         faults.push(5);
     }
-    if line[0] == b'B' && (value(line, 2) > 30_000 || value(line, 3) > 10) {
+    if tag == b'B' && (value(line, 2) > 30_000 || value(line, 3) > 10) {
         faults.push(7);
+    }
+    let cases_before = lines[..i].iter().rev().take_while(|l| l[0] == b'D').count();
+    if tag == b'D' && value(line, 1) != cases_before as i128 + 1 {
+        faults.push(12);
     }
     faults
 }
@@ -216,8 +296,10 @@ fn orders_come_up() {
         (8, 3),
         (8, 4),
         (8, 5),
+        (2, 12),
+        (3, 12),
     ];
-    for seed in 0..6_000 {
+    for seed in 0..8_000 {
         let mut rng = Rng::new(seed);
         let file = any_file(&mut rng);
         let rows = lent_rows(&mut rng, &file);
@@ -275,8 +357,10 @@ fn up(a: i128, b: i128) -> i128 {
     ((a + b - 1) / b).min(9_999_999)
 }
 
-fn tally_member(t: &mut Tally, k: u64, share: bool, m: &Member) {
-    let f = judge_member(k, share, m).unwrap();
+/// A member in one of its cases.
+fn tally_member(t: &mut Tally, k: u64, share: bool, alone: &Member) {
+    let (m, load) = (alone, alone.cases[0]);
+    let f = judge_member(k, OLD_FORM, [share; 4], alone).unwrap()[0];
     let g = |value: u64| value as i128;
     let k = g(k);
     let column = f.class <= 3;
@@ -303,8 +387,8 @@ fn tally_member(t: &mut Tally, k: u64, share: bool, m: &Member) {
     t.note("n_D capped", f.n_d == 9_999_999);
     t.note("n 9,999,998", f.n == 9_999_998);
     t.note("n_D 9,999,998", f.n_d == 9_999_998);
-    t.note("N_K tension", m.n_k < 0);
-    t.note("N_K zero", m.n_k == 0);
+    t.note("N_K tension", load.n_k < 0);
+    t.note("N_K zero", load.n_k == 0);
     t.note("N_D tension", m.n_d < 0);
     t.note("N_D zero", m.n_d == 0);
     t.note("N_D least", m.n_d == -999_999);
@@ -322,7 +406,10 @@ fn tally_member(t: &mut Tally, k: u64, share: bool, m: &Member) {
     t.note("m 9,999,998", f.m == 9_999_998);
     t.note("factor 0", m.factor == 0);
     t.note("factor 100", m.factor == 100);
-    t.note("factor 0 and rotation 0", m.factor == 0 && m.rotation == 0);
+    t.note(
+        "factor 0 and rotation 0",
+        m.factor == 0 && load.rotation == 0,
+    );
     t.note("over by m alone", f.over && f.rotation <= f.rotation_limit);
     t.note("over by rotation alone", f.over && f.m <= f.m_limit);
     t.note("m test dropped", !f.over && f.m > f.m_limit);
@@ -331,7 +418,7 @@ fn tally_member(t: &mut Tally, k: u64, share: bool, m: &Member) {
     t.note("square", long == short);
     t.around("long - 5 short", long - 5 * short, 0);
     // Shear.
-    let (v_e, v_r) = (g(m.v_e), g(m.v_r));
+    let (v_e, v_r) = (g(load.v_e), g(load.v_r));
     if column {
         t.note(&format!("k {} 7 test equal", k), 1000 * v_e == 7 * k * v_r);
         t.note(
@@ -386,28 +473,34 @@ fn tally_member(t: &mut Tally, k: u64, share: bool, m: &Member) {
         }
         t.note("v capped", v == 9_999_999);
         t.note("v 9,999,998", v == 9_999_998);
-        t.around("drift", g(m.drift), 7_500);
+        t.around("drift", g(load.drift), 7_500);
     }
-    for (i, value) in m.fields().into_iter().enumerate() {
-        let (least, most) = independent::records::member_field_range(i + 1);
+    let fields = MEMBER.into_iter().chain(LOAD_CASE);
+    let values = m.values().into_iter().chain(load.values());
+    for (i, (field, value)) in fields.zip(values).enumerate() {
+        let (least, most) = range(field);
         t.note(&format!("field {} least", i + 1), value == least);
         t.note(&format!("field {} most", i + 1), value == most);
     }
 }
 
-fn tally_storey(t: &mut Tally, k: u64, s: &Storey, members: &[Member]) {
-    let f = judge_storey(k, s, members).unwrap();
-    let (c, sum, p, w) = (f.c as i128, f.sum as i128, f.p as i128, f.w as i128);
+/// Case `i`, from 0, of a storey.
+fn tally_storey(t: &mut Tally, k: u64, i: usize, s: &Storey, members: &[Member]) {
+    let alone: Vec<Member> = members.iter().map(|m| member_in_case(i, m)).collect();
+    let found = judge_storey(k, OLD_FORM, &storey_in_case(i, s), &alone).unwrap();
+    let f = found.cases[0];
+    let (c, sum) = (found.c as i128, found.sum as i128);
+    let (p, w) = (f.p as i128, f.w as i128);
     t.around("Σ - 10,000 c", sum - 10_000 * c, 0);
     t.around("Σ - 65,000 c", sum - 65_000 * c, 0);
     let mut walls = 0;
     let mut damage = 0;
     let mut some_over = false;
-    for m in members {
+    for m in &alone {
         tally_member(t, k, f.meets_wall_share, m);
-        some_over |= judge_member(k, f.meets_wall_share, m).unwrap().over;
-        if m.long_side >= 5 * m.short_side {
-            walls += m.v as i128;
+        some_over |= judge_member(k, OLD_FORM, [f.meets_wall_share; 4], m).unwrap()[0].over;
+        if is_wall(m) {
+            walls += m.cases[0].v as i128;
         }
         damage += [0, 20, 28, 35, 140][m.damage_kind as usize];
     }
@@ -453,14 +546,12 @@ fn tally_storey(t: &mut Tally, k: u64, s: &Storey, members: &[Member]) {
     t.note("20 members, one damage 4", c == 20 && damage == 140);
     t.note("21 members, one damage 4", c == 21 && damage == 140);
     t.note("Risky by damage alone", f.risky && !some_over);
-    t.note("200 members", c == 200);
     t.note("W least", w == 1);
     t.note("W most", w == 9_999_999);
 }
 
-#[test]
-fn edges_come_up() {
-    let mut t = Tally::default();
+/// The kinds of member that must come up.
+fn expect_kinds(t: &mut Tally) {
     for class in 1..=5 {
         for over in [false, true] {
             t.note(&format!("class {} over {}", class, over), false);
@@ -475,61 +566,139 @@ fn edges_come_up() {
             t.note(&format!("class {} zone {}", class, zone), false);
         }
     }
+}
+
+fn tally_building(t: &mut Tally, survey: &Survey) {
+    let Survey {
+        header,
+        storeys,
+        members,
+    } = survey;
+    t.around("tilt 1", header.tilt_1 as i128, 25_000);
+    t.around("tilt 2", header.tilt_2 as i128, 25_000);
+    let building = judge_building(header, storeys, members).unwrap();
+    t.note(
+        "Risky by tilt alone",
+        building.risky && building.risky_places.is_empty(),
+    );
+    t.note("several Risky storeys", building.risky_places.len() > 1);
+    t.note(
+        "only a later storey Risky",
+        building.risky_places.first() > Some(&1),
+    );
+    t.note("not Risky", !building.risky);
+    t.note("10 storeys", storeys.len() == 10);
+    let most = members_most(header.form, 1) as u64;
+    t.note("a full storey", storeys.iter().any(|s| s.count == most));
+    t.note("H_T 30,000", header.height == 30_000);
+    t.note(
+        "n_s above the storeys",
+        header.storeys_above_ground > header.storey_count,
+    );
+}
+
+/// Each storey of a survey with its members.
+fn storeys_of(survey: &Survey) -> Vec<(&Storey, &[Member])> {
+    let mut rest = &survey.members[..];
+    let mut pairs = Vec::new();
+    for s in &survey.storeys {
+        let (own, later) = rest.split_at(s.count as usize);
+        pairs.push((s, own));
+        rest = later;
+    }
+    pairs
+}
+
+#[test]
+fn edges_come_up() {
+    let mut t = Tally::default();
+    expect_kinds(&mut t);
     for seed in 0..6_000 {
-        let Survey {
-            header,
-            storeys,
-            members,
-        } = valid_survey(&mut Rng::new(seed));
-        let mut rest = &members[..];
-        for s in &storeys {
-            let (its_members, later) = rest.split_at(s.member_count as usize);
-            tally_storey(&mut t, header.knowledge, s, its_members);
-            rest = later;
+        let survey = valid_survey_of(&mut Rng::new(seed), OLD_FORM);
+        for (s, own) in storeys_of(&survey) {
+            tally_storey(&mut t, survey.header.knowledge, 0, s, own);
         }
-        t.around("tilt 1", header.tilt_1 as i128, 25_000);
-        t.around("tilt 2", header.tilt_2 as i128, 25_000);
-        let building = judge_building(&header, &storeys, &members).unwrap();
-        t.note(
-            "Risky by tilt alone",
-            building.risky && building.risky_places.is_empty(),
-        );
-        t.note("several Risky storeys", building.risky_places.len() > 1);
-        t.note(
-            "only a later storey Risky",
-            building.risky_places.first() > Some(&1),
-        );
-        t.note("not Risky", !building.risky);
-        t.note("10 storeys", storeys.len() == 10);
-        t.note("H_T 30,000", header.height == 30_000);
-        t.note(
-            "n_s above the storeys",
-            header.storeys_above_ground > header.storey_count,
-        );
+        tally_building(&mut t, &survey);
     }
     t.all_hit(5);
 }
 
 #[test]
+fn edges_come_up_in_each_case() {
+    let mut of_building = Tally::default();
+    let mut of_case: [Tally; 4] = Default::default();
+    of_case.iter_mut().for_each(expect_kinds);
+    for seed in 0..6_000 {
+        let survey = valid_survey_of(&mut Rng::new(seed), CASE_FORM);
+        for (s, own) in storeys_of(&survey) {
+            for (i, t) in of_case.iter_mut().enumerate() {
+                tally_storey(t, survey.header.knowledge, i, s, own);
+            }
+        }
+        tally_building(&mut of_building, &survey);
+    }
+    of_building.all_hit(5);
+    of_case.iter().for_each(|t| t.all_hit(5));
+}
+
+/// What only a survey in cases has.
+#[test]
+fn differences_between_cases_come_up() {
+    let mut t = Tally::default();
+    for seed in 0..3_000 {
+        let survey = valid_survey_of(&mut Rng::new(seed), CASE_FORM);
+        let k = survey.header.knowledge;
+        for (s, own) in storeys_of(&survey) {
+            let f = judge_storey(k, CASE_FORM, s, own).unwrap();
+            let risky: Vec<bool> = f.cases.iter().map(|case| case.risky).collect();
+            let met: Vec<bool> = f.cases.iter().map(|case| case.meets_wall_share).collect();
+            for i in 0..4 {
+                let alone = |on: &[bool]| on[i] && on.iter().filter(|&&on| on).count() == 1;
+                t.note(&format!("Risky in case {} alone", i), alone(&risky));
+                t.note(&format!("0.40 in case {} alone", i), alone(&met));
+            }
+            t.note("Risky in every case", risky.iter().all(|&on| on));
+            for m in own {
+                let f = judge_member(k, CASE_FORM, [false; 4], m).unwrap();
+                t.note("classes differ", f.iter().any(|g| g.class != f[0].class));
+                t.note("over in some", f.iter().any(|g| g.over != f[0].over));
+            }
+        }
+    }
+    t.all_hit(20);
+}
+
+#[test]
 fn edge_members_are_valid() {
-    for seed in 0..20_000 {
-        let m = edge_member(&mut Rng::new(seed));
-        assert_eq!(check_member(&m), Ok(()));
+    for seed in 0..10_000 {
+        for form in [OLD_FORM, CASE_FORM] {
+            let m = edge_member(&mut Rng::new(seed), form);
+            assert_eq!(check_member(form, &m), Ok(()));
+        }
     }
 }
 
 #[test]
 fn every_row_is_met() {
-    let mut seen = BTreeSet::new();
-    for s in surveys_at_rows() {
-        assert!(judge_building(&s.header, &s.storeys, &s.members).is_ok());
-        for m in &s.members {
-            let f = judge_member(s.header.knowledge, false, m).unwrap();
-            assert_eq!((f.n as i64, f.m), (m.n_k, m.m_e));
-            let across = if f.class <= 3 { m.a_sh } else { m.v_e };
-            seen.insert((f.class, f.n, across, m.boundary_zone));
+    for form in [OLD_FORM, CASE_FORM] {
+        let mut seen = BTreeSet::new();
+        for s in surveys_at_rows(form) {
+            assert!(judge_building(&s.header, &s.storeys, &s.members).is_ok());
+            for m in &s.members {
+                let found = judge_member(s.header.knowledge, form, [false; 4], m).unwrap();
+                for (i, (f, load)) in found.iter().zip(&m.cases).enumerate() {
+                    assert_eq!((f.n as i64, f.m), (load.n_k, load.m_e));
+                    let across = if f.class <= 3 { m.a_sh } else { load.v_e };
+                    seen.insert((i, f.class, f.n, across, m.boundary_zone));
+                }
+            }
+        }
+        for i in 0..cases_of(form) {
+            let places = |class| {
+                let here = seen.iter().filter(|place| (place.0, place.1) == (i, class));
+                here.count()
+            };
+            assert_eq!([1, 2, 3, 4, 5].map(places), [12, 72, 6, 72, 6]);
         }
     }
-    let places = |class| seen.iter().filter(|place| place.0 == class).count();
-    assert_eq!([1, 2, 3, 4, 5].map(places), [12, 72, 6, 72, 6]);
 }

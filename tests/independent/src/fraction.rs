@@ -25,6 +25,16 @@ impl Fraction {
         }
     }
 
+    /// In lowest terms.
+    pub fn numerator(self) -> i128 {
+        self.numerator
+    }
+
+    /// In lowest terms, above zero.
+    pub fn denominator(self) -> i128 {
+        self.denominator
+    }
+
     pub fn whole(value: i128) -> Fraction {
         Fraction::new(value, 1)
     }

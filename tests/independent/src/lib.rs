@@ -1,11 +1,12 @@
 //! Risk verdict for low-rise reinforced concrete: a second program after
-//! document 01, with requests N1, N2, N8 and N10 of document 02, for
+//! document 01, with requests N1, N2, N3, N8 and N10 of document 02, for
 //! comparison.
 //!
 //! NOTES.md lists the points that the papers leave open and what the requests
 //! changed.
 
 mod fraction;
+pub mod lines;
 pub mod members;
 pub mod reading;
 pub mod records;
@@ -17,8 +18,10 @@ pub mod writing;
 pub use fraction::Fraction;
 pub use members::{judge_member, MemberFinding};
 pub use reading::{read, Survey};
-pub use records::{Header, Member, Refusal, Storey};
+pub use records::{Header, LoadCase, Member, Refusal, Storey};
 pub use report::{determine, report};
 pub use spectrum::{site, site_table, spectrum, Motion, SiteFinding};
-pub use storeys::{judge_building, judge_storey, BuildingFinding, StoreyFinding};
+pub use storeys::{
+    judge_building, judge_storey, BuildingFinding, StoreyCaseFinding, StoreyFinding,
+};
 pub use writing::write_survey;

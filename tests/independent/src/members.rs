@@ -1,7 +1,8 @@
 //! One member: class, ratios, limits, over or not.
 
 use crate::fraction::Fraction;
-use crate::records::{check_member_call, Member, Refusal};
+use crate::lines::cases_of;
+use crate::records::{check_member_call, LoadCase, Member, Refusal};
 
 /// A grid that ratios are counted on.
 struct Grid {
@@ -23,6 +24,7 @@ const HOOP_GRID: Grid = Grid {
     cap: 999_999,
 };
 
+/// A member in one load case.
 #[derive(Clone, Copy, Debug, PartialEq, Eq)]
 pub struct MemberFinding {
     /// 1 to 3 columns A to C, 4 and 5 walls A and B.
@@ -37,6 +39,12 @@ pub struct MemberFinding {
     /// Microradians.
     pub rotation: u64,
     pub rotation_limit: u64,
+    /// The m test is dropped, whatever m is.
+    pub m_dropped: bool,
+    /// m exceeds its limit, whether the test is dropped or not.
+    pub m_above: bool,
+    /// The rotation exceeds its limit.
+    pub rotation_above: bool,
     pub over: bool,
 }
 
@@ -46,39 +54,52 @@ pub const COLUMN_C: u8 = 3;
 pub const WALL_A: u8 = 4;
 pub const WALL_B: u8 = 5;
 
-/// A member judged singly, given k and whether its storey's walls carry 0.40
-/// of the storey shear.
+/// A member judged singly, given k, the form and whether its storey's walls
+/// carry 0.40 of the storey shear in each case. A finding for each case of the
+/// form; what is given for cases that the form lacks is not looked at.
 pub fn judge_member(
+    k: u64,
+    form: u64,
+    storey_meets_wall_share: [bool; 4],
+    m: &Member,
+) -> Result<Vec<MemberFinding>, Refusal> {
+    check_member_call(k, form, m)?;
+    let cases = 0..cases_of(form);
+    Ok(cases
+        .map(|i| find(k, storey_meets_wall_share[i], m, &m.cases[i]))
+        .collect())
+}
+
+/// The finding of a checked record in one of its cases.
+pub(crate) fn find(
     k: u64,
     storey_meets_wall_share: bool,
     m: &Member,
-) -> Result<MemberFinding, Refusal> {
-    check_member_call(k, m)?;
-    Ok(find(k, storey_meets_wall_share, m))
-}
+    load: &LoadCase,
+) -> MemberFinding {
+    let class = class(k, m, load);
+    let ratio = moment_ratio(k, load);
+    let (m_limit, rotation_limit) = limits(class, m, load);
 
-/// The finding of a checked record.
-pub(crate) fn find(k: u64, storey_meets_wall_share: bool, m: &Member) -> MemberFinding {
-    let class = class(k, m);
-    let ratio = moment_ratio(k, m);
-    let (m_limit, rotation_limit) = limits(class, m);
-
-    let m_test_dropped = is_wall(m)
-        && m.drift < 7_500
-        && shear_demand_below_capacity(k, m)
+    let m_dropped = is_wall(m)
+        && load.drift < 7_500
+        && shear_demand_below_capacity(k, load)
         && storey_meets_wall_share;
-    let m_over = ratio > m_limit && !m_test_dropped;
-    let rotation_over = m.rotation as i128 > rotation_limit;
+    let m_above = ratio > m_limit;
+    let rotation_above = load.rotation as i128 > rotation_limit;
 
     MemberFinding {
         class,
         n_d: axial_ratio(m.n_d, m) as u64,
-        n: axial_ratio(m.n_k, m) as u64,
+        n: axial_ratio(load.n_k, m) as u64,
         m: ratio as u64,
         m_limit: m_limit as u64,
-        rotation: m.rotation,
+        rotation: load.rotation,
         rotation_limit: rotation_limit as u64,
-        over: m_over || rotation_over,
+        m_dropped,
+        m_above,
+        rotation_above,
+        over: (m_above && !m_dropped) || rotation_above,
     }
 }
 
@@ -88,23 +109,23 @@ pub(crate) fn is_wall(m: &Member) -> bool {
     m.long_side >= 5 * m.short_side
 }
 
-fn class(k: u64, m: &Member) -> u8 {
+fn class(k: u64, m: &Member, load: &LoadCase) -> u8 {
     if is_wall(m) {
-        wall_class(k, m)
+        wall_class(k, m, load)
     } else {
-        column_class(k, m)
+        column_class(k, m, load)
     }
 }
 
-fn column_class(k: u64, m: &Member) -> u8 {
+fn column_class(k: u64, m: &Member, load: &LoadCase) -> u8 {
     let detailed = detailed(m);
-    if 1000 * m.v_e <= 7 * k * m.v_r {
+    if 1000 * load.v_e <= 7 * k * load.v_r {
         if detailed {
             COLUMN_A
         } else {
             COLUMN_B
         }
-    } else if detailed || 1000 * m.v_e <= 11 * k * m.v_r {
+    } else if detailed || 1000 * load.v_e <= 11 * k * load.v_r {
         COLUMN_B
     } else {
         COLUMN_C
@@ -115,16 +136,16 @@ fn detailed(m: &Member) -> bool {
     m.s <= 100 && m.hooks == 1 && 100 * m.a_sh * m.f_yw >= 6 * m.f_cm * m.s * m.b_k
 }
 
-fn wall_class(k: u64, m: &Member) -> u8 {
-    if m.h_w >= 2 * m.long_side && shear_demand_below_capacity(k, m) {
+fn wall_class(k: u64, m: &Member, load: &LoadCase) -> u8 {
+    if m.h_w >= 2 * m.long_side && shear_demand_below_capacity(k, load) {
         WALL_A
     } else {
         WALL_B
     }
 }
 
-fn shear_demand_below_capacity(k: u64, m: &Member) -> bool {
-    100 * m.v_e < k * m.v_r
+fn shear_demand_below_capacity(k: u64, load: &LoadCase) -> bool {
+    100 * load.v_e < k * load.v_r
 }
 
 // ---- ratios ----
@@ -145,7 +166,7 @@ impl Grid {
 }
 
 /// n from N_K, n_D from N_D. 0.1 kN over 0.1 MPa x mm² is 1,000.
-fn axial_ratio(force: i64, m: &Member) -> i128 {
+pub(crate) fn axial_ratio(force: i64, m: &Member) -> i128 {
     if force <= 0 {
         return 0;
     }
@@ -156,17 +177,17 @@ fn axial_ratio(force: i64, m: &Member) -> i128 {
 }
 
 /// m. k counts hundredths.
-fn moment_ratio(k: u64, m: &Member) -> i128 {
+fn moment_ratio(k: u64, load: &LoadCase) -> i128 {
     RATIO_GRID.up(Fraction::new(
-        100 * m.m_e as i128,
-        k as i128 * m.m_p as i128,
+        100 * load.m_e as i128,
+        k as i128 * load.m_p as i128,
     ))
 }
 
 /// v. 0.1 kN over mm x mm x 0.01 MPa is 10,000.
-fn wall_stress(m: &Member) -> i128 {
+fn wall_stress(m: &Member, load: &LoadCase) -> i128 {
     RATIO_GRID.up(Fraction::new(
-        10_000 * m.v_e as i128,
+        10_000 * load.v_e as i128,
         m.short_side as i128 * m.d as i128 * m.f_ctm as i128,
     ))
 }
@@ -302,13 +323,13 @@ fn finished_limits(class: u8, strengthened: bool, factor: u64, table: Pair) -> (
 }
 
 /// The limit of m and the limit of rotation.
-fn limits(class: u8, m: &Member) -> (i128, i128) {
-    let n = axial_ratio(m.n_k, m);
+fn limits(class: u8, m: &Member, load: &LoadCase) -> (i128, i128) {
+    let n = axial_ratio(load.n_k, m);
     let table = table_limits(
         class,
         n,
         hoop_ratio(m),
-        wall_stress(m),
+        wall_stress(m, load),
         m.boundary_zone == 1,
     );
     finished_limits(class, m.strengthened == 1, m.factor, table)
@@ -354,14 +375,14 @@ mod tests {
             (100, 9_999_998, 100_000),
             (90, 0, 7),
         ] {
-            let m = Member {
+            let load = LoadCase {
                 m_e,
                 m_p,
-                ..Member::default()
+                ..LoadCase::default()
             };
             let product = k as u128 * m_p as u128;
             let expected = up(10_000_000 * m_e as u128, product);
-            assert_eq!(moment_ratio(k, &m), expected);
+            assert_eq!(moment_ratio(k, &load), expected);
         }
         for (short_side, d, f_ctm, v_e) in [
             (200, 5_000, 1_000, 90_000),
@@ -374,12 +395,15 @@ mod tests {
                 short_side,
                 d,
                 f_ctm,
-                v_e,
                 ..Member::default()
+            };
+            let load = LoadCase {
+                v_e,
+                ..LoadCase::default()
             };
             let product = short_side as u128 * d as u128 * f_ctm as u128;
             let expected = up(1_000_000_000 * v_e as u128, product);
-            assert_eq!(wall_stress(&m), expected);
+            assert_eq!(wall_stress(&m, &load), expected);
         }
         // ρ keeps its grid, its cap and its side.
         for (a_sh, s, b_k, rho) in [

@@ -1,15 +1,15 @@
 //! Reading a survey file, line by line and field by field.
 
+use crate::lines::{
+    b_line, cases_of, d_line, m_line, s_line, Line, CASES, CASE_FORM, COLUMNS, MEMBER, OLD_FORM,
+};
 use crate::records::{
-    header_field_in_range, member_field_in_range, member_number_repeated, not_low_rise,
-    short_above_long, storey_field_in_range, storey_number_repeated, Header, Member, Refusal,
-    Storey, HEADER_FIELDS, MEMBER_FIELDS, STOREY_FIELDS,
+    member_number_repeated, not_low_rise, short_above_long, storey_number_repeated, Header,
+    LoadCase, Member, Refusal, Storey,
 };
 
 pub(crate) const LF: u8 = 10;
 const BLANK: u8 = 32;
-/// The columns of a field.
-pub(crate) const COLUMNS: usize = 8;
 
 /// What a file holds: the members of all storeys, in survey order.
 #[derive(Clone, Debug, Default, PartialEq, Eq)]
@@ -28,12 +28,14 @@ pub fn read(bytes: &[u8], storey_rows: usize, member_rows: usize) -> Result<Surv
     let mut survey = Survey::default();
 
     survey.header = read_header(&mut file)?;
+    let form = form_of_first_storey(&file);
+    survey.header.form = form;
     for _ in 0..survey.header.storey_count {
-        let storey = read_storey(&mut file, storey_rows, &survey.storeys)?;
+        let storey = read_storey(&mut file, form, storey_rows, &survey.storeys)?;
         survey.storeys.push(storey);
         let first = survey.members.len();
-        for _ in 0..storey.member_count {
-            let member = read_member(&mut file, member_rows, &survey.members, first)?;
+        for _ in 0..storey.count {
+            let member = read_member(&mut file, form, member_rows, &survey.members, first)?;
             survey.members.push(member);
         }
     }
@@ -41,77 +43,100 @@ pub fn read(bytes: &[u8], storey_rows: usize, member_rows: usize) -> Result<Surv
     Ok(survey)
 }
 
-/// 1, then 2 and 3 of each field, then 7.
+/// 1, then 2 and 3 of each field, then 7. The form is not in the line.
 fn read_header(file: &mut Lines) -> Result<Header, Refusal> {
-    let text = file.next(b'B', HEADER_FIELDS)?;
+    let text = file.next(&b_line())?;
     let line = file.line;
-    let mut fields = [0; HEADER_FIELDS];
-    for i in 0..HEADER_FIELDS {
-        let value = number(text, i, false).ok_or(Refusal::at(2, line))?;
-        if !header_field_in_range(i + 1, value, fields[2]) {
-            return Err(Refusal::at(3, line));
-        }
-        fields[i] = value;
-    }
-    let header = Header::from_fields(&fields);
+    let header = Header::from_values(&values(text, line, &b_line())?, 0);
     if not_low_rise(&header) {
         return Err(Refusal::at(7, line));
     }
     Ok(header)
 }
 
+/// The form, by the length of the line to come. A line that is the first storey
+/// of neither form is refused when it is read.
+fn form_of_first_storey(file: &Lines) -> u64 {
+    if file.next_is(&s_line(CASE_FORM)) {
+        CASE_FORM
+    } else {
+        OLD_FORM
+    }
+}
+
 /// 1, then 8, then 2 and 3 of each field, then 5.
-fn read_storey(file: &mut Lines, rows: usize, earlier: &[Storey]) -> Result<Storey, Refusal> {
-    let text = file.next(b'S', STOREY_FIELDS)?;
+fn read_storey(
+    file: &mut Lines,
+    form: u64,
+    rows: usize,
+    earlier: &[Storey],
+) -> Result<Storey, Refusal> {
+    let text = file.next(&s_line(form))?;
     let line = file.line;
     if earlier.len() >= rows {
         return Err(Refusal::at(8, line));
     }
-    let mut fields = [0; STOREY_FIELDS];
-    for i in 0..STOREY_FIELDS {
-        let value = number(text, i, false).ok_or(Refusal::at(2, line))?;
-        if !storey_field_in_range(i + 1, value) {
-            return Err(Refusal::at(3, line));
-        }
-        fields[i] = value;
-    }
-    let storey = Storey::from_fields(&fields);
+    let storey = Storey::from_values(&values(text, line, &s_line(form))?, form);
     if storey_number_repeated(earlier, storey.number) {
         return Err(Refusal::at(5, line));
     }
     Ok(storey)
 }
 
-/// 1, then 8, then 2 and 3 of each field, then 4, then 5.
+/// 1, then 8, then 2 and 3 of each field, then 4, then 5; then the D lines.
 /// The storey's own members begin at `first` among the earlier ones.
 fn read_member(
     file: &mut Lines,
+    form: u64,
     rows: usize,
     earlier: &[Member],
     first: usize,
 ) -> Result<Member, Refusal> {
-    let text = file.next(b'M', MEMBER_FIELDS)?;
+    let text = file.next(&m_line(form))?;
     let line = file.line;
     if earlier.len() >= rows {
         return Err(Refusal::at(8, line));
     }
-    let mut fields = [0; MEMBER_FIELDS];
-    for i in 0..MEMBER_FIELDS {
-        let minus_may_stand = i + 1 == 18 || i + 1 == 19;
-        let value = number(text, i, minus_may_stand).ok_or(Refusal::at(2, line))?;
-        if !member_field_in_range(i + 1, value) {
-            return Err(Refusal::at(3, line));
-        }
-        fields[i] = value;
-    }
-    let member = Member::from_fields(&fields);
+    let values = values(text, line, &m_line(form))?;
+    let mut member = Member::from_values(&values, [LoadCase::default(); CASES]);
     if short_above_long(&member) {
         return Err(Refusal::at(4, line));
     }
     if member_number_repeated(&earlier[first..], member.number) {
         return Err(Refusal::at(5, line));
     }
+    if form == CASE_FORM {
+        for i in 0..cases_of(form) {
+            member.cases[i] = read_case(file, i + 1)?;
+        }
+    } else {
+        member.cases[0] = LoadCase::from_values(&values[MEMBER.len()..]);
+    }
     Ok(member)
+}
+
+/// A D line: 1, then 2 and 3 of each field, then 12.
+fn read_case(file: &mut Lines, case: usize) -> Result<LoadCase, Refusal> {
+    let text = file.next(&d_line())?;
+    let line = file.line;
+    let values = values(text, line, &d_line())?;
+    if values[0] != case as i128 {
+        return Err(Refusal::at(12, line));
+    }
+    Ok(LoadCase::from_values(&values[1..]))
+}
+
+/// The numbers in a line's fields: 2 and 3 of each from the left.
+fn values(text: &[u8], line: u64, kind: &Line) -> Result<Vec<i128>, Refusal> {
+    let mut values = Vec::new();
+    for (i, field) in kind.fields.iter().enumerate() {
+        let value = number(text, i, field.minus_may_stand()).ok_or(Refusal::at(2, line))?;
+        if !field.allows(value, &values) {
+            return Err(Refusal::at(3, line));
+        }
+        values.push(value);
+    }
+    Ok(values)
 }
 
 /// The lines still to come. `line` is the number of the last one taken.
@@ -121,17 +146,22 @@ struct Lines<'a> {
 }
 
 impl<'a> Lines<'a> {
+    /// Whether the next line has this tag and length. It ends at its first LF.
+    fn next_is(&self, kind: &Line) -> bool {
+        let length = kind.length();
+        let end = self.rest.iter().take(length).position(|&b| b == LF);
+        end == Some(length - 1) && self.rest[0] == kind.tag
+    }
+
     /// The next line's fields. 1 unless the line has this tag and length.
-    fn next(&mut self, tag: u8, fields: usize) -> Result<&'a [u8], Refusal> {
+    fn next(&mut self, kind: &Line) -> Result<&'a [u8], Refusal> {
         self.line += 1;
-        let length = 1 + fields * COLUMNS;
-        let end = self.rest.iter().take(length + 1).position(|&b| b == LF);
-        if end != Some(length) || self.rest[0] != tag {
+        if !self.next_is(kind) {
             return Err(Refusal::at(1, self.line));
         }
-        let text = &self.rest[1..length];
-        self.rest = &self.rest[length + 1..];
-        Ok(text)
+        let (text, rest) = self.rest.split_at(kind.length());
+        self.rest = rest;
+        Ok(&text[1..kind.length() - 1])
     }
 
     /// 6 if bytes follow.

@@ -3,6 +3,10 @@
 //! Values are checked as i128, so that whatever stands in a record can be
 //! looked at without overflow.
 
+use crate::lines::{
+    all_allowed, cases_of, s_line, CASES, CASE_FORM, HEADER, LOAD_CASE, MEMBER, OLD_FORM,
+};
+
 /// A refusal by number, with the line when reading, else line 0.
 #[derive(Clone, Copy, Debug, PartialEq, Eq, Hash)]
 pub struct Refusal {
@@ -21,7 +25,7 @@ impl Refusal {
     }
 }
 
-/// The B line.
+/// The B line and the form of the survey.
 #[derive(Clone, Copy, Debug, Default, PartialEq, Eq, Hash)]
 pub struct Header {
     /// k, hundredths.
@@ -35,19 +39,21 @@ pub struct Header {
     pub tilt_2: u64,
     /// Number of S lines.
     pub storey_count: u64,
+    /// 1 the old form, 2 four load cases. Not written in the file.
+    pub form: u64,
 }
 
 /// An S line.
 #[derive(Clone, Copy, Debug, Default, PartialEq, Eq, Hash)]
 pub struct Storey {
     pub number: u64,
-    /// W, 0.1 kN.
-    pub shear: u64,
+    /// W of each case, 0.1 kN. In the old form all but the first are 0.
+    pub shears: [u64; 4],
     /// Number of M lines.
-    pub member_count: u64,
+    pub count: u64,
 }
 
-/// An M line.
+/// An M line, with its D lines where the survey has four cases.
 #[derive(Clone, Copy, Debug, Default, PartialEq, Eq, Hash)]
 pub struct Member {
     /// 1
@@ -86,6 +92,13 @@ pub struct Member {
     pub damage_kind: u64,
     /// 18 N_D, 0.1 kN, compression positive
     pub n_d: i64,
+    /// The cases in order. In the old form all but the first hold 0.
+    pub cases: [LoadCase; 4],
+}
+
+/// A member in one load case: fields 19 to 26 of the old form's M line.
+#[derive(Clone, Copy, Debug, Default, PartialEq, Eq, Hash)]
+pub struct LoadCase {
     /// 19 N_K, 0.1 kN, compression positive
     pub n_k: i64,
     /// 20 M_e, 0.1 kNm
@@ -104,12 +117,11 @@ pub struct Member {
     pub drift: u64,
 }
 
-pub const HEADER_FIELDS: usize = 6;
-pub const STOREY_FIELDS: usize = 3;
-pub const MEMBER_FIELDS: usize = 26;
+// ---- records and the values of their lines, in the lines' order ----
 
 impl Header {
-    pub fn fields(&self) -> [i128; HEADER_FIELDS] {
+    /// Without the form.
+    pub fn values(&self) -> [i128; HEADER.len()] {
         [
             self.knowledge as i128,
             self.height as i128,
@@ -120,38 +132,46 @@ impl Header {
         ]
     }
 
-    pub fn from_fields(f: &[i128; HEADER_FIELDS]) -> Header {
+    pub fn from_values(values: &[i128], form: u64) -> Header {
         Header {
-            knowledge: f[0] as u64,
-            height: f[1] as u64,
-            storeys_above_ground: f[2] as u64,
-            tilt_1: f[3] as u64,
-            tilt_2: f[4] as u64,
-            storey_count: f[5] as u64,
+            knowledge: values[0] as u64,
+            height: values[1] as u64,
+            storeys_above_ground: values[2] as u64,
+            tilt_1: values[3] as u64,
+            tilt_2: values[4] as u64,
+            storey_count: values[5] as u64,
+            form,
         }
     }
 }
 
 impl Storey {
-    pub fn fields(&self) -> [i128; STOREY_FIELDS] {
-        [
-            self.number as i128,
-            self.shear as i128,
-            self.member_count as i128,
-        ]
+    /// With the shears that the form has.
+    pub fn values(&self, form: u64) -> Vec<i128> {
+        let mut values = vec![self.number as i128];
+        for &shear in &self.shears[..cases_of(form)] {
+            values.push(shear as i128);
+        }
+        values.push(self.count as i128);
+        values
     }
 
-    pub fn from_fields(f: &[i128; STOREY_FIELDS]) -> Storey {
+    pub fn from_values(values: &[i128], form: u64) -> Storey {
+        let mut shears = [0; CASES];
+        for (i, shear) in shears[..cases_of(form)].iter_mut().enumerate() {
+            *shear = values[1 + i] as u64;
+        }
         Storey {
-            number: f[0] as u64,
-            shear: f[1] as u64,
-            member_count: f[2] as u64,
+            number: values[0] as u64,
+            shears,
+            count: values[values.len() - 1] as u64,
         }
     }
 }
 
 impl Member {
-    pub fn fields(&self) -> [i128; MEMBER_FIELDS] {
+    /// What it has once.
+    pub fn values(&self) -> [i128; MEMBER.len()] {
         [
             self.number as i128,
             self.long_side as i128,
@@ -171,6 +191,37 @@ impl Member {
             self.factor as i128,
             self.damage_kind as i128,
             self.n_d as i128,
+        ]
+    }
+
+    pub fn from_values(values: &[i128], cases: [LoadCase; 4]) -> Member {
+        Member {
+            number: values[0] as u64,
+            long_side: values[1] as u64,
+            short_side: values[2] as u64,
+            a_c: values[3] as u64,
+            f_cm: values[4] as u64,
+            f_ctm: values[5] as u64,
+            f_yw: values[6] as u64,
+            d: values[7] as u64,
+            h_w: values[8] as u64,
+            s: values[9] as u64,
+            b_k: values[10] as u64,
+            a_sh: values[11] as u64,
+            hooks: values[12] as u64,
+            boundary_zone: values[13] as u64,
+            strengthened: values[14] as u64,
+            factor: values[15] as u64,
+            damage_kind: values[16] as u64,
+            n_d: values[17] as i64,
+            cases,
+        }
+    }
+}
+
+impl LoadCase {
+    pub fn values(&self) -> [i128; LOAD_CASE.len()] {
+        [
             self.n_k as i128,
             self.m_e as i128,
             self.m_p as i128,
@@ -182,102 +233,43 @@ impl Member {
         ]
     }
 
-    pub fn from_fields(f: &[i128; MEMBER_FIELDS]) -> Member {
-        Member {
-            number: f[0] as u64,
-            long_side: f[1] as u64,
-            short_side: f[2] as u64,
-            a_c: f[3] as u64,
-            f_cm: f[4] as u64,
-            f_ctm: f[5] as u64,
-            f_yw: f[6] as u64,
-            d: f[7] as u64,
-            h_w: f[8] as u64,
-            s: f[9] as u64,
-            b_k: f[10] as u64,
-            a_sh: f[11] as u64,
-            hooks: f[12] as u64,
-            boundary_zone: f[13] as u64,
-            strengthened: f[14] as u64,
-            factor: f[15] as u64,
-            damage_kind: f[16] as u64,
-            n_d: f[17] as i64,
-            n_k: f[18] as i64,
-            m_e: f[19] as u64,
-            m_p: f[20] as u64,
-            v_e: f[21] as u64,
-            v_r: f[22] as u64,
-            v: f[23] as u64,
-            rotation: f[24] as u64,
-            drift: f[25] as u64,
+    pub fn from_values(values: &[i128]) -> LoadCase {
+        LoadCase {
+            n_k: values[0] as i64,
+            m_e: values[1] as u64,
+            m_p: values[2] as u64,
+            v_e: values[3] as u64,
+            v_r: values[4] as u64,
+            v: values[5] as u64,
+            rotation: values[6] as u64,
+            drift: values[7] as u64,
         }
     }
 }
 
-// ---- ranges, fields counted from 1 as in the paper ----
+// ---- what 3, 4, 5 and 7 look at ----
 
-fn within(value: i128, least: i128, most: i128) -> bool {
-    least <= value && value <= most
+fn header_in_range(h: &Header) -> bool {
+    all_allowed(&HEADER, &h.values()) && form_in_range(h.form)
 }
 
-/// 90 for minimum or 100 for full, no other.
-pub fn knowledge_in_range(k: i128) -> bool {
-    k == 90 || k == 100
+fn form_in_range(form: u64) -> bool {
+    form == OLD_FORM || form == CASE_FORM
 }
 
-/// The last field runs to n_s, the third.
-pub fn header_field_in_range(field: usize, value: i128, n_s: i128) -> bool {
-    match field {
-        1 => knowledge_in_range(value),
-        2 => within(value, 1, 99_999),
-        3 => within(value, 1, 99),
-        4 | 5 => within(value, 0, 9_999_999),
-        6 => within(value, 1, n_s),
-        _ => false,
-    }
+/// The shears of cases that the form lacks are 0.
+fn storey_in_range(form: u64, s: &Storey) -> bool {
+    let lacking = &s.shears[cases_of(form)..];
+    all_allowed(&s_line(form).fields, &s.values(form)) && lacking.iter().all(|&shear| shear == 0)
 }
 
-pub fn storey_field_in_range(field: usize, value: i128) -> bool {
-    match field {
-        1 => within(value, 1, 9_999_999),
-        2 => within(value, 1, 9_999_999),
-        3 => within(value, 1, 200),
-        _ => false,
-    }
+/// The cases that the form lacks hold 0.
+fn member_in_range(form: u64, m: &Member) -> bool {
+    let (present, lacking) = m.cases.split_at(cases_of(form));
+    all_allowed(&MEMBER, &m.values())
+        && present.iter().all(|c| all_allowed(&LOAD_CASE, &c.values()))
+        && lacking.iter().all(|c| *c == LoadCase::default())
 }
-
-/// Least and most of a member's field.
-pub fn member_field_range(field: usize) -> (i128, i128) {
-    match field {
-        1 => (1, 9_999_999),
-        2 | 3 => (1, 99_999),
-        4 => (1, 9_999_999),
-        5 => (1, 9_999),
-        6 => (1, 9_999),
-        7 => (1, 99_999),
-        8 | 9 => (1, 99_999),
-        10 => (1, 9_999),
-        11 => (1, 99_999),
-        12 => (0, 99_999),
-        13 | 14 | 15 => (0, 1),
-        16 => (0, 100),
-        17 => (0, 4),
-        18 | 19 => (-999_999, 9_999_999),
-        20 => (0, 9_999_999),
-        21 => (1, 9_999_999),
-        22 => (0, 9_999_999),
-        23 => (1, 9_999_999),
-        24 | 25 | 26 => (0, 9_999_999),
-        _ => (0, -1),
-    }
-}
-
-pub fn member_field_in_range(field: usize, value: i128) -> bool {
-    let (least, most) = member_field_range(field);
-    within(value, least, most)
-}
-
-// ---- what 4, 7 and 5 look at ----
 
 pub fn short_above_long(m: &Member) -> bool {
     m.short_side > m.long_side
@@ -306,40 +298,33 @@ fn refuse_if(bad: bool, number: u8) -> Result<(), Refusal> {
     }
 }
 
-/// 3.
-pub fn check_knowledge(k: u64) -> Result<(), Refusal> {
-    refuse_if(!knowledge_in_range(k as i128), 3)
+/// k by 3, then the form by 3.
+fn check_knowledge_and_form(k: u64, form: u64) -> Result<(), Refusal> {
+    refuse_if(!all_allowed(&HEADER[..1], &[k as i128]), 3)?;
+    refuse_if(!form_in_range(form), 3)
 }
 
 /// 3, then 7.
-pub fn check_header(h: &Header) -> Result<(), Refusal> {
-    let n_s = h.storeys_above_ground as i128;
-    for (i, value) in h.fields().into_iter().enumerate() {
-        refuse_if(!header_field_in_range(i + 1, value, n_s), 3)?;
-    }
+fn check_header(h: &Header) -> Result<(), Refusal> {
+    refuse_if(!header_in_range(h), 3)?;
     refuse_if(not_low_rise(h), 7)
 }
 
 /// 3.
-pub fn check_storey(s: &Storey) -> Result<(), Refusal> {
-    for (i, value) in s.fields().into_iter().enumerate() {
-        refuse_if(!storey_field_in_range(i + 1, value), 3)?;
-    }
-    Ok(())
+fn check_storey(form: u64, s: &Storey) -> Result<(), Refusal> {
+    refuse_if(!storey_in_range(form, s), 3)
 }
 
 /// 3, then 4.
-pub fn check_member(m: &Member) -> Result<(), Refusal> {
-    for (i, value) in m.fields().into_iter().enumerate() {
-        refuse_if(!member_field_in_range(i + 1, value), 3)?;
-    }
+fn check_member(form: u64, m: &Member) -> Result<(), Refusal> {
+    refuse_if(!member_in_range(form, m), 3)?;
     refuse_if(short_above_long(m), 4)
 }
 
 /// The members of one storey, in order: 3, 4, 5 of each.
-fn check_members(members: &[Member]) -> Result<(), Refusal> {
+fn check_members(form: u64, members: &[Member]) -> Result<(), Refusal> {
     for (i, m) in members.iter().enumerate() {
-        check_member(m)?;
+        check_member(form, m)?;
         refuse_if(member_number_repeated(&members[..i], m.number), 5)?;
     }
     Ok(())
@@ -347,31 +332,31 @@ fn check_members(members: &[Member]) -> Result<(), Refusal> {
 
 // ---- checks of whole calls ----
 
-/// A member judged singly: k by 3, then the record.
-pub fn check_member_call(k: u64, m: &Member) -> Result<(), Refusal> {
-    check_knowledge(k)?;
-    check_member(m)
+/// A member judged singly: k and form by 3, then the record.
+pub fn check_member_call(k: u64, form: u64, m: &Member) -> Result<(), Refusal> {
+    check_knowledge_and_form(k, form)?;
+    check_member(form, m)
 }
 
-/// A storey: 1, then k by 3, then its record and its members.
-pub fn check_storey_call(k: u64, s: &Storey, members: &[Member]) -> Result<(), Refusal> {
-    refuse_if(s.member_count as u128 != members.len() as u128, 1)?;
-    check_knowledge(k)?;
-    check_storey(s)?;
-    check_members(members)
+/// A storey: 1, then k and form by 3, then its record and its members.
+pub fn check_storey_call(k: u64, form: u64, s: &Storey, members: &[Member]) -> Result<(), Refusal> {
+    refuse_if(s.count as u128 != members.len() as u128, 1)?;
+    check_knowledge_and_form(k, form)?;
+    check_storey(form, s)?;
+    check_members(form, members)
 }
 
 /// A whole survey: 1 over all, then the records in survey order.
 pub fn check_survey(h: &Header, storeys: &[Storey], members: &[Member]) -> Result<(), Refusal> {
     refuse_if(h.storey_count as u128 != storeys.len() as u128, 1)?;
-    let total: u128 = storeys.iter().map(|s| s.member_count as u128).sum();
+    let total: u128 = storeys.iter().map(|s| s.count as u128).sum();
     refuse_if(total != members.len() as u128, 1)?;
 
     check_header(h)?;
     for (i, (s, its_members)) in by_storey(storeys, members).into_iter().enumerate() {
-        check_storey(s)?;
+        check_storey(h.form, s)?;
         refuse_if(storey_number_repeated(&storeys[..i], s.number), 5)?;
-        check_members(its_members)?;
+        check_members(h.form, its_members)?;
     }
     Ok(())
 }
@@ -384,7 +369,7 @@ pub(crate) fn by_storey<'a>(
     let mut rest = members;
     let mut pairs = Vec::new();
     for s in storeys {
-        let (its_members, later) = rest.split_at(s.member_count as usize);
+        let (its_members, later) = rest.split_at(s.count as usize);
         pairs.push((s, its_members));
         rest = later;
     }

@@ -1,9 +1,12 @@
 //! The printed sheet and the whole program.
 
+use crate::lines::CASE_FORM;
 use crate::members::MemberFinding;
 use crate::reading::read;
 use crate::records::{by_storey, check_survey, Header, Member, Refusal, Storey};
-use crate::storeys::{find_building, find_storey, BuildingFinding, StoreyFinding};
+use crate::storeys::{
+    find_building, find_storey, BuildingFinding, StoreyCaseFinding, StoreyFinding,
+};
 
 const COLUMNS: usize = 12;
 
@@ -22,12 +25,15 @@ pub fn report(
     let mut sheet = Vec::new();
     let mut storey_findings = Vec::new();
     for (s, its_members) in by_storey(storeys, members) {
-        let (storey_finding, member_findings) = find_storey(h.knowledge, s, its_members);
-        for (m, f) in its_members.iter().zip(&member_findings) {
-            write_member(&mut sheet, m.number, f);
+        let (finding, found) = find_storey(h.knowledge, h.form, s, its_members);
+        for (i, its_found) in found.iter().enumerate() {
+            let first = first_fields(h.form, i);
+            for (m, f) in its_members.iter().zip(its_found) {
+                write_member(&mut sheet, &first, m.number, f);
+            }
+            write_storey(&mut sheet, &first, &finding, &finding.cases[i]);
         }
-        write_storey(&mut sheet, &storey_finding);
-        storey_findings.push(storey_finding);
+        storey_findings.push(finding);
     }
     write_building(&mut sheet, &find_building(h, &storey_findings));
     if sheet.len() > buffer_len {
@@ -58,7 +64,17 @@ fn refusal_line(refusal: Refusal) -> Vec<u8> {
     out
 }
 
-fn write_member(out: &mut Vec<u8>, number: u64, f: &MemberFinding) {
+/// What stands first in the lines of case `i`, from 0: its number, and nothing
+/// in the old form.
+fn first_fields(form: u64, i: usize) -> Vec<u64> {
+    if form == CASE_FORM {
+        vec![i as u64 + 1]
+    } else {
+        vec![]
+    }
+}
+
+fn write_member(out: &mut Vec<u8>, first: &[u64], number: u64, f: &MemberFinding) {
     let fields = [
         number,
         f.class as u64,
@@ -68,11 +84,13 @@ fn write_member(out: &mut Vec<u8>, number: u64, f: &MemberFinding) {
         f.rotation_limit,
         f.over as u64,
     ];
-    write_line(out, b'M', &fields);
+    write_line(out, b'M', &[first, &fields].concat());
 }
 
-fn write_storey(out: &mut Vec<u8>, f: &StoreyFinding) {
-    write_line(out, b'S', &[f.number, f.sum, f.c, f.p, f.w, f.risky as u64]);
+/// Risky as in the case.
+fn write_storey(out: &mut Vec<u8>, first: &[u64], s: &StoreyFinding, f: &StoreyCaseFinding) {
+    let fields = [s.number, s.sum, s.c, f.p, f.w, f.risky as u64];
+    write_line(out, b'S', &[first, &fields].concat());
 }
 
 fn write_building(out: &mut Vec<u8>, f: &BuildingFinding) {

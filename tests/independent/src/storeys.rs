@@ -1,7 +1,8 @@
 //! A storey and the building.
 
 use crate::fraction::Fraction;
-use crate::members::{find, is_wall, MemberFinding};
+use crate::lines::cases_of;
+use crate::members::{axial_ratio, find, is_wall, MemberFinding};
 use crate::records::{by_storey, check_storey_call, check_survey, Header, Member, Refusal, Storey};
 
 /// The largest tilt that passes, microradians.
@@ -17,20 +18,38 @@ const SHARE_MOST_TO: i128 = 10_000;
 /// enough.
 const SHARE_NONE_FROM: i128 = 65_000;
 
-#[derive(Clone, Copy, Debug, PartialEq, Eq)]
+#[derive(Clone, Debug, PartialEq, Eq)]
 pub struct StoreyFinding {
     pub number: u64,
     /// Σ, the total of n_D, hundred-thousandths.
     pub sum: u64,
     /// The member count.
     pub c: u64,
+    /// The cases of the form, in order.
+    pub cases: Vec<StoreyCaseFinding>,
+    /// Risky in some case.
+    pub risky: bool,
+}
+
+/// A storey in one load case.
+#[derive(Clone, Copy, Debug, PartialEq, Eq)]
+pub struct StoreyCaseFinding {
     /// The total of V over members that are over.
     pub p: u64,
     /// The storey shear.
     pub w: u64,
-    pub risky: bool,
     /// The walls' V total at least 0.40 of the storey shear.
     pub meets_wall_share: bool,
+    /// From Σ and c, so the same in every case.
+    pub allowed_share: Fraction,
+    /// P / W exceeds the allowed share.
+    pub by_share: bool,
+    /// Σ lies above the end of the allowed share and some member is over.
+    pub by_one_over: bool,
+    /// By the damage kinds, so the same in every case.
+    pub by_damage: bool,
+    /// By any of the three.
+    pub risky: bool,
 }
 
 #[derive(Clone, Debug, PartialEq, Eq)]
@@ -43,10 +62,15 @@ pub struct BuildingFinding {
     pub risky_places: Vec<u64>,
 }
 
-/// A storey, given k, its record and its members.
-pub fn judge_storey(k: u64, s: &Storey, members: &[Member]) -> Result<StoreyFinding, Refusal> {
-    check_storey_call(k, s, members)?;
-    let (finding, _) = find_storey(k, s, members);
+/// A storey, given k, the form, its record and its members.
+pub fn judge_storey(
+    k: u64,
+    form: u64,
+    s: &Storey,
+    members: &[Member],
+) -> Result<StoreyFinding, Refusal> {
+    check_storey_call(k, form, s, members)?;
+    let (finding, _) = find_storey(k, form, s, members);
     Ok(finding)
 }
 
@@ -59,40 +83,66 @@ pub fn judge_building(
     check_survey(h, storeys, members)?;
     let mut findings = Vec::new();
     for (s, its_members) in by_storey(storeys, members) {
-        findings.push(find_storey(h.knowledge, s, its_members).0);
+        findings.push(find_storey(h.knowledge, h.form, s, its_members).0);
     }
     Ok(find_building(h, &findings))
 }
 
-/// The findings of a checked storey and of its members.
+/// The findings of a checked storey and, case by case, of its members.
 pub(crate) fn find_storey(
+    k: u64,
+    form: u64,
+    s: &Storey,
+    members: &[Member],
+) -> (StoreyFinding, Vec<Vec<MemberFinding>>) {
+    let mut cases = Vec::new();
+    let mut members_by_case = Vec::new();
+    for i in 0..cases_of(form) {
+        let (case, found) = find_storey_case(k, s, members, i);
+        cases.push(case);
+        members_by_case.push(found);
+    }
+    let finding = StoreyFinding {
+        number: s.number,
+        sum: total_of_n_d(members),
+        c: members.len() as u64,
+        risky: cases.iter().any(|case| case.risky),
+        cases,
+    };
+    (finding, members_by_case)
+}
+
+/// Case `i`, from 0, of a checked storey and of its members.
+fn find_storey_case(
     k: u64,
     s: &Storey,
     members: &[Member],
-) -> (StoreyFinding, Vec<MemberFinding>) {
-    let meets_wall_share = walls_carry_their_share(s, members);
+    i: usize,
+) -> (StoreyCaseFinding, Vec<MemberFinding>) {
+    let w = s.shears[i];
+    let meets_wall_share = walls_carry_their_share(w, members, i);
     let found: Vec<MemberFinding> = members
         .iter()
-        .map(|m| find(k, meets_wall_share, m))
+        .map(|m| find(k, meets_wall_share, m, &m.cases[i]))
         .collect();
 
-    let c = members.len() as u64;
-    let sum: u64 = found.iter().map(|f| f.n_d).sum();
-    let p = shear_of_members_over(members, &found);
+    let (sum, c) = (total_of_n_d(members), members.len() as u64);
+    let p = shear_of_members_over(members, &found, i);
     let some_member_over = found.iter().any(|f| f.over);
 
-    let risky = share_exceeded(p, s.shear, sum, c)
-        || (one_is_enough(sum, c) && some_member_over)
-        || damage_reached(members);
+    let by_share = share_exceeded(p, w, sum, c);
+    let by_one_over = one_is_enough(sum, c) && some_member_over;
+    let by_damage = damage_reached(members);
 
-    let finding = StoreyFinding {
-        number: s.number,
-        sum,
-        c,
+    let finding = StoreyCaseFinding {
         p,
-        w: s.shear,
-        risky,
+        w,
         meets_wall_share,
+        allowed_share: allowed_share(sum, c),
+        by_share,
+        by_one_over,
+        by_damage,
+        risky: by_share || by_one_over || by_damage,
     };
     (finding, found)
 }
@@ -113,22 +163,27 @@ pub(crate) fn find_building(h: &Header, storeys: &[StoreyFinding]) -> BuildingFi
     }
 }
 
-/// The walls' V total >= 0.40 x storey shear.
-fn walls_carry_their_share(s: &Storey, members: &[Member]) -> bool {
+/// Σ. N_D is in no case, so this is the same in all.
+fn total_of_n_d(members: &[Member]) -> u64 {
+    members.iter().map(|m| axial_ratio(m.n_d, m) as u64).sum()
+}
+
+/// The walls' V total in case `i` >= 0.40 x storey shear.
+fn walls_carry_their_share(w: u64, members: &[Member], i: usize) -> bool {
     let walls: u128 = members
         .iter()
         .filter(|m| is_wall(m))
-        .map(|m| m.v as u128)
+        .map(|m| m.cases[i].v as u128)
         .sum();
-    100 * walls >= 40 * s.shear as u128
+    100 * walls >= 40 * w as u128
 }
 
-/// P: in a checked storey at most 200 x 9,999,999 = 1,999,999,800.
-fn shear_of_members_over(members: &[Member], found: &[MemberFinding]) -> u64 {
+/// P of case `i`: in a checked storey at most 200 x 9,999,999 = 1,999,999,800.
+fn shear_of_members_over(members: &[Member], found: &[MemberFinding], i: usize) -> u64 {
     let mut p = 0;
     for (m, f) in members.iter().zip(found) {
         if f.over {
-            p += m.v;
+            p += m.cases[i].v;
         }
     }
     p

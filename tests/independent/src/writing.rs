@@ -1,6 +1,7 @@
 //! Writing a survey file from its records.
 
-use crate::reading::{COLUMNS, LF};
+use crate::lines::{b_line, cases_of, d_line, m_line, s_line, Line, CASE_FORM, COLUMNS};
+use crate::reading::LF;
 use crate::records::{by_storey, check_survey, Header, Member, Refusal, Storey};
 
 /// The survey file of these records, for a buffer of `buffer_len` bytes. Its
@@ -19,23 +20,37 @@ pub fn write_survey(
     Ok(file)
 }
 
-/// The file of checked records: the B line, then each S with its M lines.
+/// The file of checked records: the B line, then each S with its M lines, in
+/// four cases each M with its D lines.
 fn survey_file(h: &Header, storeys: &[Storey], members: &[Member]) -> Vec<u8> {
     let mut file = Vec::new();
-    write_line(&mut file, b'B', &h.fields());
+    write_line(&mut file, &b_line(), &h.values());
     for (s, its_members) in by_storey(storeys, members) {
-        write_line(&mut file, b'S', &s.fields());
+        write_line(&mut file, &s_line(h.form), &s.values(h.form));
         for m in its_members {
-            write_line(&mut file, b'M', &m.fields());
+            write_member(&mut file, h.form, m);
         }
     }
     file
 }
 
+fn write_member(file: &mut Vec<u8>, form: u64, m: &Member) {
+    let once = m.values();
+    if form != CASE_FORM {
+        let values = [&once[..], &m.cases[0].values()].concat();
+        return write_line(file, &m_line(form), &values);
+    }
+    write_line(file, &m_line(form), &once);
+    for i in 0..cases_of(form) {
+        let values = [&[i as i128 + 1][..], &m.cases[i].values()].concat();
+        write_line(file, &d_line(), &values);
+    }
+}
+
 /// Tag, fields of 8 columns, LF.
-fn write_line(file: &mut Vec<u8>, tag: u8, fields: &[i128]) {
-    file.push(tag);
-    for &value in fields {
+fn write_line(file: &mut Vec<u8>, kind: &Line, values: &[i128]) {
+    file.push(kind.tag);
+    for &value in values {
         file.extend_from_slice(written_field(value).as_bytes());
     }
     file.push(LF);

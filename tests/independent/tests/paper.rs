@@ -1,11 +1,13 @@
-//! The worked example, edges (a) to (j), and the rules around them.
+//! The worked example, edges (a) to (j), and the rules around them, in the old
+//! form.
 
 mod common;
 
-use common::*;
-use independent::{
-    determine, judge_building, judge_member, judge_storey, read, report, Header, Member, Storey,
+use common::old::{
+    judge_building, judge_member, judge_storey, read, report, Header, Member, Storey,
 };
+use common::*;
+use independent::determine;
 
 fn limits(k: u64, m: &Member) -> (u8, u64, u64) {
     let f = judge_member(k, false, m).unwrap();

@@ -1,12 +1,12 @@
-//! Each refusal and the order among them.
+//! Each refusal and the order among them, in the old form.
 
 mod common;
 
-use common::*;
-use independent::{
-    determine, judge_building, judge_member, judge_storey, read, report, write_survey, Header,
-    Member, Storey,
+use common::old::{
+    judge_building, judge_member, judge_storey, read, report, write_survey, Header, Member, Storey,
 };
+use common::*;
+use independent::determine;
 
 fn reading(lines: &[String]) -> (u8, u64) {
     refused(read(lines.concat().as_bytes(), 10, 320))

@@ -1,12 +1,14 @@
-//! The survey file out of its records: bytes, refusals, reading back.
+//! The survey file out of its records in the old form: bytes, refusals, reading
+//! back.
 
 mod common;
 
-use common::*;
-use independent::records::{HEADER_FIELDS, MEMBER_FIELDS, STOREY_FIELDS};
-use independent::{
-    determine, judge_building, read, report, write_survey, Header, Member, Storey, Survey,
+use common::old::{
+    judge_building, read, report, write_survey, Header, Member, Storey, Survey, HEADER_FIELDS,
+    MEMBER_FIELDS, STOREY_FIELDS,
 };
+use common::*;
+use independent::determine;
 
 const B_BYTES: usize = 50;
 const S_BYTES: usize = 26;

@@ -16,7 +16,7 @@ use borrow.Fn.World.{World}
 use borrow.Rule.Scalar.{oBool}
 use borrow.Table.Row.{Cx, sPtr, sBool}
 use borrow.Table.Rows.{sc-here}
-use Rattle.walk.proofs.Walk.{S, _⨾_, _▸_, _◂_, told, _then_, at, from, set, op2, lit, cp, fld, sc, gone, old, forget, falls, test, when, while, exits, ret, same, u64}
+use Rattle.walk.proofs.Walk.{S, _⨾_, _▸_, told, _then_, at, from, set, op2, lit, cp, fld, sc, gone, old, forget, falls, test, when, while, exits, ret, same, u64}
 use Rattle.walk.proofs.Slice.{R, kept, full, here, sh-ptr, sh-len, val-at, elem-out}
 use Rattle.walk.proofs.Fn.{Callee, Knows, Body, Answers, entry, call, meets}
 use Rattle.records.proofs.Structs.{storey, storey-bytes}
@@ -76,31 +76,31 @@ body κs qs bs =
     ret tt))
 
 answers : Answers Says.counts-fit K 0 Code.function body
-answers κs qs a good pre bs =
-    ((a .1 .0, 0), refl, (omega arith, left-all (a .0 .now) (a .1 .0))) ◂ λ vs inv. (
-      tt,
-      (
-        λ taken. told (ltb-true (vs .1) (length (a .0 .now)) taken) λ l. (
-          search needs,
+answers κs qs a good pre bs = (
+  ((a .1 .0, 0), refl, (omega arith, left-all (a .0 .now) (a .1 .0))),
+  λ vs inv. (
+    tt,
+    (
+      λ taken. told (ltb-true (vs .1) (length (a .0 .now)) taken) λ l. (
+        search needs,
+        (
+          tt,
           (
-            tt,
-            (
-              (refl, refl, l),
-              λ _. (
-                λ _. tt,
-                λ g. (
-                  tt,
-                  (
-                    λ less. ((refl, (tt, tt)), too-few (a .0 .now) (a .1 .0) (vs .0) (vs .1) (g .1) (inv .1) (g .5) (ltb-true (vs .0) (g .1) less)),
-                    λ more. told (ltb-false (vs .0) (g .1) more) λ q. (
+            (refl, refl, l),
+            λ _. (
+              λ _. tt,
+              λ g. (
+                tt,
+                (
+                  λ less. ((refl, (tt, tt)), too-few (a .0 .now) (a .1 .0) (vs .0) (vs .1) (g .1) (inv .1) (g .5) (ltb-true (vs .0) (g .1) less)),
+                  λ more. told (ltb-false (vs .0) (g .1) more) λ q. (
+                    search needs,
+                    (
                       search needs,
                       (
-                        search needs,
-                        (
-                          length (a .0 .now) - (vs .1 + 1),
-                          omega arith,
-                          ((vs .0 - g .1, vs .1 + 1), refl, (omega arith, left-next (a .0 .now) (a .1 .0) (vs .0) (vs .1) (g .1) (inv .1) (g .5) q), refl),
-                        ),
+                        length (a .0 .now) - (vs .1 + 1),
+                        omega arith,
+                        ((vs .0 - g .1, vs .1 + 1), refl, (omega arith, left-next (a .0 .now) (a .1 .0) (vs .0) (vs .1) (g .1) (inv .1) (g .5) q), refl),
                       ),
                     ),
                   ),
@@ -109,10 +109,12 @@ answers κs qs a good pre bs =
             ),
           ),
         ),
-        λ left. told (ltb-false (vs .1) (length (a .0 .now)) left) λ l.
-            (tt, ((refl, (tt, tt)), fits-all (a .0 .now) (a .1 .0) (vs .0) (vs .1) (inv .1) (inv .0) l)),
       ),
-    )
+      λ left. told (ltb-false (vs .1) (length (a .0 .now)) left) λ l.
+          (tt, ((refl, (tt, tt)), fits-all (a .0 .now) (a .1 .0) (vs .0) (vs .1) (inv .1) (inv .0) l)),
+    ),
+  ),
+)
 
 pub counts-fit-spec : {M : Type 1} → statement M
 unfolding Code.routine tablesOf

@@ -22,6 +22,10 @@ use Rattle.checks.proofs.row.header_call_fault.Met as header-call-fault
 use Rattle.checks.proofs.row.header_call_fault.Symbol as header-call-fault-symbol
 use Rattle.checks.proofs.row.header_call_fault.Kinds as header-call-fault-kinds
 use Rattle.checks.proofs.row.header_call_fault.Reads as header-call-fault-reads
+use Rattle.records.proofs.numbers.form_of.Met as form-of-met
+use Rattle.records.proofs.numbers.form_of.Symbol as form-of-symbol
+use Rattle.records.proofs.numbers.form_of.Kinds as form-of-kinds
+use Rattle.records.proofs.numbers.form_of.Reads as form-of-reads
 use Rattle.checks.proofs.rows_fault.Met as rows-fault-met
 use Rattle.checks.proofs.rows_fault.Symbol as rows-fault-symbol
 use Rattle.checks.proofs.records_fault.Code
@@ -34,11 +38,14 @@ the-counts-fit = callee Says.counts-fit counts-fit-symbol.name
 abbrev the-header-call-fault : Callee
 the-header-call-fault = record { n = 0; ps = header-call-fault-kinds.ps; r = header-call-fault-kinds.r; asked = header-call-fault-reads.Asked; learnt = header-call-fault-reads.Learnt; name = header-call-fault-symbol.name }
 
+abbrev the-form-of : Callee
+the-form-of = record { n = 0; ps = form-of-kinds.ps; r = form-of-kinds.r; asked = form-of-reads.Asked; learnt = form-of-reads.Learnt; name = form-of-symbol.name }
+
 abbrev the-rows-fault : Callee
 the-rows-fault = callee Says.rows-fault rows-fault-symbol.name
 
 abbrev K : S → Type 1
-K s = Knows the-counts-fit s × Knows the-header-call-fault s × Knows the-rows-fault s
+K s = Knows the-counts-fit s × Knows the-header-call-fault s × Knows the-form-of s × Knows the-rows-fault s
 
 abbrev τ2 : Ty
 τ2 = tyRef (named 0) imm (pointee (R storey .written))
@@ -65,8 +72,10 @@ body κs qs bs =
     from (cx1 κs qs) (forget 6 (old u64) ▸
     op2 7 sBool ne (cp 5 (sc u64)) (lit w64 0 tt) gone refl (λ u. refl) (λ u. tt) ⨾
     when 7 (λ t. t) (sc sBool) (old sBool) refl (forget 1 (full header) ▸ set 0 u64 (cp 5 (sc u64)) gone refl (λ u. refl) (λ u. tt) ⨾ forget 4 (old sBool) ▸ forget 5 (old u64) ▸ ret tt)
-    (from (cx2 κs qs) (forget 1 (full header) ▸ call the-rows-fault (λ s k. k .2) 0 (0 ∷ 1 ∷ []) (sh-at 2 τ2 (λ x. x), (sh-at 3 τ3 (λ x. x), tt)) (λ s. (sh-spares s (R storey) τ2 0, sh-reads s (R storey) τ2 0, refl, (sh-spares s (R member) τ3 1, sh-reads s (R member) τ3 1, refl, tt))) gone (tt, (tt, tt)) refl ⨾
-    forget 4 (old sBool) ▸ forget 5 (old u64) ▸ ret tt)))
+    (from (cx2 κs qs) (call the-form-of (λ s k. k .2) 8 [] (val-at 1 (λ x. x), tt) (λ s. ((here header .is s, refl), tt)) gone tt refl ⨾
+    forget 1 (full header) ▸
+    call the-rows-fault (λ s k. k .3) 0 (0 ∷ 1 ∷ []) (vAt 8 (λ x. x), (sh-at 2 τ2 (λ x. x), (sh-at 3 τ3 (λ x. x), tt))) (λ s. ((sc u64 .is s, refl), (sh-spares s (R storey) τ2 0, sh-reads s (R storey) τ2 0, refl, (sh-spares s (R member) τ3 1, sh-reads s (R member) τ3 1, refl, tt)))) gone (tt, (tt, tt)) refl ⨾
+    forget 8 (old u64) ▸ forget 4 (old sBool) ▸ forget 5 (old u64) ▸ ret tt)))
 
 answers : Answers Says.records-fault K 0 Code.function body
 answers κs qs a good pre bs = (
@@ -78,8 +87,11 @@ answers κs qs a good pre bs = (
       (
         λ ne. ((tt, (refl, (refl, tt))), refused-first (a .0) (a .1 .0 .now) (a .1 .1 .0 .now) (t .1) (r .1) (t .5) (r .5) (eqb-false (r .1) 0 (not-true (eqb (r .1) 0) ne))),
         λ no. told (eqb-true (r .1) 0 (not-false (eqb (r .1) 0) no)) λ z. (
-          λ _. counted (a .0) (a .1 .0 .now) (a .1 .1 .0 .now) (t .1) (r .1) (t .5) (r .5) z,
-          λ f. ((tt, (refl, (refl, tt))), refused-later (a .0) (a .1 .0 .now) (a .1 .1 .0 .now) (t .1) (r .1) (t .5) (r .5) z (f .1) (f .5)),
+          λ _. tt,
+          λ k. (
+            λ _. counted (a .0) (a .1 .0 .now) (a .1 .1 .0 .now) (t .1) (r .1) (t .5) (r .5) z,
+            λ f. ((tt, (refl, (refl, tt))), refused-later (a .0) (a .1 .0 .now) (a .1 .1 .0 .now) (t .1) (r .1) (t .5) (r .5) z (k .1) (f .1) (k .5) (f .5)),
+          ),
         ),
       ),
     ),
@@ -92,5 +104,6 @@ records-fault-spec {M} 𝓤 H 𝓜 𝓖 𝓡 = let w : World = record { M = M; �
     meets Says.records-fault K 0 Code.function body answers w Code.env Key.name (Code.unfolded 𝓤 H 𝓜 𝓡) (
       knows Says.counts-fit w Code.env counts-fit-symbol.name counts-fit-symbol.routine Code.calls-checks·counts-fit (counts-fit-met.met 𝓤 H 𝓜 𝓖 𝓡),
       header-call-fault-reads.known w Code.env header-call-fault-symbol.name header-call-fault-symbol.routine Code.calls-checks·row·header-call-fault (header-call-fault-met.met 𝓤 H 𝓜 𝓖 𝓡),
+      form-of-reads.known w Code.env form-of-symbol.name form-of-symbol.routine Code.calls-records·numbers·form-of (form-of-met.met 𝓤 H 𝓜 𝓖 𝓡),
       knows Says.rows-fault w Code.env rows-fault-symbol.name rows-fault-symbol.routine Code.calls-checks·rows-fault (rows-fault-met.met 𝓤 H 𝓜 𝓖 𝓡),
     )

@@ -16,7 +16,7 @@ use borrow.Author.Needs.{needs}
 use borrow.Fn.World.{World}
 use borrow.Table.Row.{Cx, sPtr, sBool}
 use borrow.Table.Rows.{sc-here}
-use Rattle.walk.proofs.Walk.{S, _⨾_, _▸_, _◂_, told, at, from, set, op2, lit, cp, fld, sc, gone, old, forget, falls, test, when, while, exits, ret, same, u64}
+use Rattle.walk.proofs.Walk.{S, _⨾_, _▸_, told, at, from, set, op2, lit, cp, fld, sc, gone, old, forget, falls, test, when, while, exits, ret, same, u64}
 use Rattle.walk.proofs.Slice.{R, kept, full, here, sh-ptr, val-at, elem-out}
 use Rattle.walk.proofs.Fn.{Callee, Knows, Body, Answers, entry, call, meets}
 use Rattle.records.proofs.Structs.{member, member-bytes}
@@ -70,32 +70,34 @@ body κs qs bs =
     ret tt))
 
 answers : Answers Says.repeat-fault K 0 Code.function body
-answers κs qs a good pre bs =
-    (0, refl, (omega arith, unseen (a .0 .now) (a .1 .1 .0) (a .1 .0))) ◂ λ vs inv. (
-      tt,
-      (
-        λ taken. told (ltb-true vs (a .1 .0) taken) λ l. (
-          search needs,
+answers κs qs a good pre bs = (
+  (0, refl, (omega arith, unseen (a .0 .now) (a .1 .1 .0) (a .1 .0))),
+  λ vs inv. (
+    tt,
+    (
+      λ taken. told (ltb-true vs (a .1 .0) taken) λ l. (
+        search needs,
+        (
+          tt,
           (
-            tt,
-            (
-              (refl, refl, omega arith),
-              λ _. (
-                λ _. tt,
-                λ g. (
-                  tt,
-                  (
-                    λ hit. ((refl, (tt, (tt, tt))), seen-here (a .0 .now) (a .1 .1 .0) (a .1 .0) vs (g .1) l (g .5) hit),
-                    λ miss. (search needs, (a .1 .0 - (vs + 1), omega arith, (vs + 1, refl, (omega arith, unseen-next (a .0 .now) (a .1 .1 .0) (a .1 .0) vs (g .1) (inv .1) (g .5) miss), refl))),
-                  ),
+            (refl, refl, omega arith),
+            λ _. (
+              λ _. tt,
+              λ g. (
+                tt,
+                (
+                  λ hit. ((refl, (tt, (tt, tt))), seen-here (a .0 .now) (a .1 .1 .0) (a .1 .0) vs (g .1) l (g .5) hit),
+                  λ miss. (search needs, (a .1 .0 - (vs + 1), omega arith, (vs + 1, refl, (omega arith, unseen-next (a .0 .now) (a .1 .1 .0) (a .1 .0) vs (g .1) (inv .1) (g .5) miss), refl))),
                 ),
               ),
             ),
           ),
         ),
-        λ left. ((refl, (tt, (tt, tt))), unseen-all (a .0 .now) (a .1 .1 .0) (a .1 .0) vs (inv .1) (inv .0) (ltb-false vs (a .1 .0) left)),
       ),
-    )
+      λ left. ((refl, (tt, (tt, tt))), unseen-all (a .0 .now) (a .1 .1 .0) (a .1 .0) vs (inv .1) (inv .0) (ltb-false vs (a .1 .0) left)),
+    ),
+  ),
+)
 
 pub repeat-fault-spec : {M : Type 1} → statement M
 unfolding Code.routine tablesOf

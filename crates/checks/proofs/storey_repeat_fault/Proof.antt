@@ -16,7 +16,7 @@ use borrow.Author.Needs.{needs}
 use borrow.Fn.World.{World}
 use borrow.Table.Row.{Cx, sPtr, sBool}
 use borrow.Table.Rows.{sc-here}
-use Rattle.walk.proofs.Walk.{S, _⨾_, _▸_, _◂_, told, at, from, set, op2, lit, cp, fld, sc, gone, old, forget, falls, test, when, while, exits, ret, same, u64}
+use Rattle.walk.proofs.Walk.{S, _⨾_, _▸_, told, at, from, set, op2, lit, cp, fld, sc, gone, old, forget, falls, test, when, while, exits, ret, same, u64}
 use Rattle.walk.proofs.Slice.{R, kept, full, here, sh-ptr, val-at, elem-out}
 use Rattle.walk.proofs.Fn.{Callee, Knows, Body, Answers, entry, call, meets}
 use Rattle.records.proofs.Structs.{storey, storey-bytes}
@@ -70,29 +70,29 @@ body κs qs bs =
     ret tt))
 
 answers : Answers Says.storey-repeat-fault K 0 Code.function body
-answers κs qs a good pre bs =
-    (0, refl, (omega arith, repeat-none (a .0 .now) (a .1 .0) (a .1 .1 .0))) ◂ λ vs inv. (
-      tt,
-      (
-        λ taken. told (ltb-true vs (a .1 .0) taken) λ l. (
-          search needs,
+answers κs qs a good pre bs = (
+  (0, refl, (omega arith, repeat-none (a .0 .now) (a .1 .0) (a .1 .1 .0))),
+  λ vs inv. (
+    tt,
+    (
+      λ taken. told (ltb-true vs (a .1 .0) taken) λ l. (
+        search needs,
+        (
+          tt,
           (
-            tt,
-            (
-              (refl, refl, omega arith),
-              λ _. (
-                λ _. tt,
-                λ g. (
-                  tt,
-                  (
-                    λ same. ((refl, (tt, (tt, tt))), repeat-found (a .0 .now) (a .1 .0) (a .1 .1 .0) vs (g .1) (g .5) l same),
-                    λ other. (
-                      search needs,
-                      (
-                        a .1 .0 - (vs + 1),
-                        omega arith,
-                        (vs + 1, refl, (omega arith, repeat-next (a .0 .now) (a .1 .0) (a .1 .1 .0) vs (g .1) (g .5) (inv .1) other), refl),
-                      ),
+            (refl, refl, omega arith),
+            λ _. (
+              λ _. tt,
+              λ g. (
+                tt,
+                (
+                  λ same. ((refl, (tt, (tt, tt))), repeat-found (a .0 .now) (a .1 .0) (a .1 .1 .0) vs (g .1) (g .5) l same),
+                  λ other. (
+                    search needs,
+                    (
+                      a .1 .0 - (vs + 1),
+                      omega arith,
+                      (vs + 1, refl, (omega arith, repeat-next (a .0 .now) (a .1 .0) (a .1 .1 .0) vs (g .1) (g .5) (inv .1) other), refl),
                     ),
                   ),
                 ),
@@ -100,10 +100,12 @@ answers κs qs a good pre bs =
             ),
           ),
         ),
-        λ left. told (ltb-false vs (a .1 .0) left) λ l.
-            ((refl, (tt, (tt, tt))), repeat-all (a .0 .now) (a .1 .0) (a .1 .1 .0) vs (inv .1) (inv .0) l),
       ),
-    )
+      λ left. told (ltb-false vs (a .1 .0) left) λ l.
+          ((refl, (tt, (tt, tt))), repeat-all (a .0 .now) (a .1 .0) (a .1 .1 .0) vs (inv .1) (inv .0) l),
+    ),
+  ),
+)
 
 pub storey-repeat-fault-spec : {M : Type 1} → statement M
 unfolding Code.routine tablesOf

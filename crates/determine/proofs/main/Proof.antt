@@ -1,3 +1,5 @@
+use Prim.Native.Nat.{ℕ}
+use lib.ListN.{length, replicate, length-replicate}
 use mathlib.Core.Path.{sym}
 use lib.Seq.{length-take-le}
 use Rattle.determine.proofs.Transfers.{input-within}
@@ -6,7 +8,7 @@ use Rattle.determine.proofs.main.Statement.{statement}
 use Rattle.determine.proofs.main.Tie as tie
 
 slice-aggregate-read-all : tie.Need-slice-aggregate-read-all
-slice-aggregate-read-all c = search needs
+slice-aggregate-read-all c = sym (length-replicate {A = ℕ} 65537 0)
 
 read-all-requires : tie.Need-read-all-requires
 read-all-requires c κs = search needs
@@ -18,10 +20,10 @@ enum-known-input : tie.Need-enum-known-input
 enum-known-input c = search needs
 
 array-share-prefix-buffer : tie.Need-array-share-prefix-buffer
-array-share-prefix-buffer c = input-within (c .before .before .before .before .before .read-all .result) _ _ 65537 (c .before .before .before .before .before .read-all .last .0) (c .before .before .before .input-of .ensures) (c .before .input .given .1) (c .before .before .before .before .before .read-all .ensures) (c .before .before .before .before .buffer2 .given)
+array-share-prefix-buffer c = input-within (c .before .before .before .before .before .read-all .result) _ _ (length {A = ℕ} (replicate 65537 0)) (c .before .before .before .before .before .read-all .last .0) (c .before .before .before .input-of .ensures) (c .before .input .given .1) (c .before .before .before .before .before .read-all .ensures) (c .before .before .before .before .buffer2 .given)
 
 slice-aggregate-print : tie.Need-slice-aggregate-print
-slice-aggregate-print c = sym (length-take-le _ _ (input-within (c .before .before .before .before .before .before .read-all .result) _ _ 65537 (c .before .before .before .before .before .before .read-all .last .0) (c .before .before .before .before .input-of .ensures) (c .before .before .input .given .1) (c .before .before .before .before .before .before .read-all .ensures) (c .before .before .before .before .before .buffer2 .given)))
+slice-aggregate-print c = sym (length-take-le _ _ (array-share-prefix-buffer (c .before)))
 
 print-requires : tie.Need-print-requires
 print-requires c κs = search needs

@@ -1,5 +1,6 @@
-use lib.ListN.{replicate}
-use Rattle.determination.specs.Determination.{printed}
+use Prim.Native.Nat.{ℕ}
+use lib.ListN.{length, replicate, length-replicate}
+use Rattle.determination.specs.Determination.{sheetMost, printed}
 use mathlib.Core.Path.{sym}
 use lib.Seq.{length-take-le}
 use Rattle.columns.proofs.Stamps.{put-within}
@@ -8,16 +9,16 @@ use Rattle.determine.proofs.print.Statement.{statement}
 use Rattle.determine.proofs.print.Tie as tie
 
 slice-aggregate-determine : tie.Need-slice-aggregate-determine
-slice-aggregate-determine c = search needs
+slice-aggregate-determine c = sym (length-replicate {A = ℕ} sheetMost 0)
 
 determine-requires : tie.Need-determine-requires
 determine-requires c κs = search needs
 
 array-share-prefix-sheet : tie.Need-array-share-prefix-sheet
-array-share-prefix-sheet c = put-within (printed (c .before .before .before .before .args .input .now) 28286) (replicate 28286 0) _ _ (c .before .determine .ensures .0) (c .before .determine .ensures .1)
+array-share-prefix-sheet c = put-within (printed (c .before .before .before .before .args .input .now) (length {A = ℕ} (replicate sheetMost 0))) (replicate sheetMost 0) _ _ (c .before .determine .ensures .0) (c .before .determine .ensures .1)
 
 slice-aggregate-write-all : tie.Need-slice-aggregate-write-all
-slice-aggregate-write-all c = sym (length-take-le _ _ (put-within (printed (c .before .before .before .before .before .args .input .now) 28286) (replicate 28286 0) _ _ (c .before .before .determine .ensures .0) (c .before .before .determine .ensures .1)))
+slice-aggregate-write-all c = sym (length-take-le _ _ (array-share-prefix-sheet (c .before)))
 
 write-all-requires : tie.Need-write-all-requires
 write-all-requires c κs = search needs

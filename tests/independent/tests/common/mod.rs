@@ -1,7 +1,12 @@
 //! The worked example's records and a writer of lines.
 #![allow(dead_code)]
 
-use independent::{Header, Member, Refusal, Storey};
+pub mod cases;
+pub mod draw;
+pub mod old;
+
+use independent::Refusal;
+use old::{Header, Member, Storey};
 
 /// The number and line of a refusal.
 pub fn refused<T: std::fmt::Debug>(result: Result<T, Refusal>) -> (u8, u64) {

@@ -25,17 +25,17 @@ use Rattle.records.proofs.Structs.{header, member, storey}
 use Rattle.exports.specs.Calls.{room, no-room}
 use Rattle.exports.proofs.Says as Says
 use Rattle.exports.proofs.Says.{words}
-use Rattle.words.proofs.given.header_given.Met as header-given-met
-use Rattle.words.proofs.given.header_given.Symbol as header-given-symbol
-use Rattle.words.proofs.given.header_given.Kinds as header-given-kinds
-use Rattle.words.proofs.given.header_given.Reads as header-given-reads
+use Rattle.handed.proofs.header_given.Met as header-given-met
+use Rattle.handed.proofs.header_given.Symbol as header-given-symbol
+use Rattle.handed.proofs.header_given.Kinds as header-given-kinds
+use Rattle.handed.proofs.header_given.Reads as header-given-reads
 use Rattle.storeys.proofs.building.judge_building.Met as judge-building-met
 use Rattle.storeys.proofs.building.judge_building.Symbol as judge-building-symbol
 use Rattle.storeys.proofs.Says as storeys-Says
-use Rattle.words.proofs.answers.put_building.Met as put-building-met
-use Rattle.words.proofs.answers.put_building.Symbol as put-building-symbol
-use Rattle.words.proofs.answers.put_building.Kinds as put-building-kinds
-use Rattle.words.proofs.answers.put_building.Reads as put-building-reads
+use Rattle.answers.proofs.survey.put_building.Met as put-building-met
+use Rattle.answers.proofs.survey.put_building.Symbol as put-building-symbol
+use Rattle.answers.proofs.survey.put_building.Kinds as put-building-kinds
+use Rattle.answers.proofs.survey.put_building.Reads as put-building-reads
 use Rattle.exports.proofs.judge_calls.llunareth_judge_building.Code
 use Rattle.exports.proofs.judge_calls.llunareth_judge_building.Key
 use Rattle.exports.proofs.judge_calls.llunareth_judge_building.Statement.{statement}
@@ -123,7 +123,7 @@ pub llunareth-judge-building-spec : {M : Type 1} → statement M
 unfolding Code.routine tablesOf
 llunareth-judge-building-spec {M} 𝓤 H 𝓜 𝓖 𝓡 = let w : World = record { M = M; 𝓤 = 𝓤; H = H; 𝓜 = 𝓜; 𝓖 = 𝓖; 𝓡 = 𝓡 } in
     meets Says.llunareth-judge-building K 1 Code.function body answers w Code.env Key.name (Code.unfolded 𝓤 H 𝓜 𝓡) (
-      header-given-reads.known w Code.env header-given-symbol.name header-given-symbol.routine Code.calls-words·given·header-given (header-given-met.met 𝓤 H 𝓜 𝓖 𝓡),
+      header-given-reads.known w Code.env header-given-symbol.name header-given-symbol.routine Code.calls-handed·header-given (header-given-met.met 𝓤 H 𝓜 𝓖 𝓡),
       knows storeys-Says.judge-building w Code.env judge-building-symbol.name judge-building-symbol.routine Code.calls-storeys·building·judge-building (judge-building-met.met 𝓤 H 𝓜 𝓖 𝓡),
-      put-building-reads.known w Code.env put-building-symbol.name put-building-symbol.routine Code.calls-words·answers·put-building (put-building-met.met 𝓤 H 𝓜 𝓖 𝓡),
+      put-building-reads.known w Code.env put-building-symbol.name put-building-symbol.routine Code.calls-answers·survey·put-building (put-building-met.met 𝓤 H 𝓜 𝓖 𝓡),
     )

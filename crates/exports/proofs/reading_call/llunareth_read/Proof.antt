@@ -22,7 +22,7 @@ use Rattle.reading.proofs.Structs.{reading}
 use Rattle.members.specs.Finding.{Returned}
 use Rattle.reading.specs.Survey.{Outcome, survey}
 use Rattle.reading.specs.Answer.{told as toldOf, storeysAfter, membersAfter}
-use Rattle.words.specs.Words.{packed}
+use Rattle.answers.specs.Packing.{packed}
 use Rattle.exports.specs.Calls.{readingCount, readingReturned}
 use Rattle.exports.proofs.Lines.{refusal-most, line-most}
 use Rattle.exports.proofs.Room.{with-room, no-room, put, not-put}
@@ -76,7 +76,7 @@ cx3 κs qs = at 4 (mslice-owed (words) (tyRef (named 3) mut (tyInt w64)) 3 6 (le
 abbrev body : Body Says.llunareth-read K 3 Code.function
 body κs qs bs =
     set 6 u64 (fld 4 1 (mut-len words 3) refl) gone refl (λ u. refl) (λ u. tt) ⨾
-    op2 7 sBool (lt unsigned) (cp 6 (sc u64)) (lit w64 8 tt) gone refl (λ u. refl) (λ u. tt) ⨾
+    op2 7 sBool (lt unsigned) (cp 6 (sc u64)) (lit w64 9 tt) gone refl (λ u. refl) (λ u. tt) ⨾
     forget 6 (old u64) ▸
     when 7 (λ t. t) (sc sBool) (old sBool) refl (set 0 u64 (lit w64 255 tt) gone refl (λ u. refl) (λ u. tt) ⨾ ret tt)
     (from (start κs qs) (begin 4 (tt, (tt, (tt, (tt, (tt, (tt, (tt, (tt, (tt, (tt, (tt, (tt, (tt, (tt, tt)))))))))))))) ▸
@@ -109,7 +109,7 @@ answers κs qs a good pre bs =
     let found : Returned = readingReturned (toldOf outcome) in (
       tt,
       (
-        λ hit. told (ltb-true (length out) 8 hit) λ short. told (not-put readingCount found out short) λ n. (
+        λ hit. told (ltb-true (length out) 9 hit) λ short. told (not-put readingCount found out short) λ n. (
           (refl, (refl, (refl, (refl, tt)))),
           (n .0, (n .1, (sym (no-room readingCount out (storeysAfter outcome (a .1 .0 .now)) (a .1 .0 .now) short), sym (no-room readingCount out (membersAfter outcome (a .1 .1 .0 .now)) (a .1 .1 .0 .now) short)))),
         ),
@@ -142,7 +142,7 @@ answers κs qs a good pre bs =
                                   ),
                                 ),
                               ),
-                              told (ltb-false (length out) 8 miss) λ room.
+                              told (ltb-false (length out) 9 miss) λ room.
                                   told (put readingCount found out room (h .5 .0 ∙ ap packed e) (h .5 .1 ∙ ap (λ (t : Returned). atFront (t .values) out) e)) λ n. (
                                     n .0,
                                     (

@@ -1,6 +1,6 @@
 use Rattle.reading.specs.Answer.{tells}
 use Rattle.exports.specs.Calls.{readingReturned}
-use Rattle.words.proofs.Packed.{refused}
+use Rattle.answers.proofs.Packed.{refused}
 use native.Mathlib.Omega.{arith}
 use mathlib.Core.Path.{_∙_}
 use borrow.Author.Needs.{needs}

@@ -1,6 +1,6 @@
 use Prim.Native.Nat.{ℕ}
 use mathlib.Core.List.{List, [], _∷_}
-use mathlib.Core.Path.{refl, sym, ap, _∙_}
+use mathlib.Core.Path.{refl, ap, _∙_}
 use lib.ListN.{length}
 use contract.Lifetimes.{Lfts, Shares}
 use contract.Running.{tablesOf}
@@ -13,7 +13,7 @@ use borrow.Rule.Slice.Mut.{mslice, msleft}
 use borrow.Rule.Slice.Relend.{asMut, mslice-owed}
 use borrow.Table.Row.{Cx, lease, off, alive, dead, sBool}
 use borrow.Table.Rows.{sc-here}
-use Rattle.walk.proofs.Walk.{told, S, _⨾_, _▸_, at, slot, from, set, op2, lit, cp, fld, sc, gone, old, forget, when, ret, same, u64}
+use Rattle.walk.proofs.Walk.{S, _⨾_, _▸_, at, slot, from, set, op2, lit, cp, fld, sc, gone, old, forget, when, ret, same, u64}
 use Rattle.walk.proofs.Slice.{R, kept, full, here, mut-len, val-at, sh-at, sh-spares, sh-reads, mut-at, mut-is, mut-reads, slice, lend-on, back-on, owed-len}
 use Rattle.walk.proofs.Array.{begin, end, over}
 use Rattle.walk.proofs.Fn.{Callee, Knows, Body, Answers, entry, callee, knows, call, meets}
@@ -22,24 +22,23 @@ use Rattle.records.specs.declared.Header.{Header}
 use Rattle.records.proofs.Structs.{header, member, storey}
 use Rattle.members.specs.Finding.{Returned}
 use Rattle.report.specs.Sheet.{reportReturned, bufferAfter}
-use Rattle.records.specs.Records.{headerBy, surveyOf}
-use Rattle.words.specs.Words.{handed, packed}
+use Rattle.records.specs.Records.{surveyOf}
+use Rattle.handed.specs.Handed.{headerHanded}
 use Rattle.exports.specs.Calls.{reportCount}
-use Rattle.exports.proofs.Room.{with-room, no-room, put, not-put}
-use Rattle.columns.specs.Line.{atFront}
+use Rattle.exports.proofs.Room.{put-kept, not-put-kept}
 use Rattle.exports.proofs.Says as Says
 use Rattle.exports.proofs.Says.{bytes, words}
-use Rattle.words.proofs.given.header_given.Met as header-given-met
-use Rattle.words.proofs.given.header_given.Symbol as header-given-symbol
-use Rattle.words.proofs.given.header_given.Kinds as header-given-kinds
-use Rattle.words.proofs.given.header_given.Reads as header-given-reads
+use Rattle.handed.proofs.header_given.Met as header-given-met
+use Rattle.handed.proofs.header_given.Symbol as header-given-symbol
+use Rattle.handed.proofs.header_given.Kinds as header-given-kinds
+use Rattle.handed.proofs.header_given.Reads as header-given-reads
 use Rattle.report.proofs.sheet.write_report.Met as write-report-met
 use Rattle.report.proofs.sheet.write_report.Symbol as write-report-symbol
 use Rattle.report.proofs.Says as report-Says
-use Rattle.words.proofs.answers.put_report.Met as put-report-met
-use Rattle.words.proofs.answers.put_report.Symbol as put-report-symbol
-use Rattle.words.proofs.answers.put_report.Kinds as put-report-kinds
-use Rattle.words.proofs.answers.put_report.Reads as put-report-reads
+use Rattle.answers.proofs.survey.put_report.Met as put-report-met
+use Rattle.answers.proofs.survey.put_report.Symbol as put-report-symbol
+use Rattle.answers.proofs.survey.put_report.Kinds as put-report-kinds
+use Rattle.answers.proofs.survey.put_report.Reads as put-report-reads
 use Rattle.exports.proofs.report_calls.llunareth_report.Code
 use Rattle.exports.proofs.report_calls.llunareth_report.Key
 use Rattle.exports.proofs.report_calls.llunareth_report.Statement.{statement}
@@ -117,14 +116,14 @@ body κs qs bs =
 
 answers : Answers Says.llunareth-report K 2 Code.function body
 answers κs qs a good pre bs =
-    let h : Header = headerBy (handed (a .0 .now)) in
+    let h : Header = headerHanded (a .0 .now) in
     let out : List ℕ = a .1 .1 .1 .1 .0 .now in
     let sheet : List ℕ = a .1 .1 .1 .0 .now in
     let found : Returned = reportReturned (surveyOf h (a .1 .0 .now) (a .1 .1 .0 .now)) (length sheet) in
     let after : List ℕ = bufferAfter (surveyOf h (a .1 .0 .now) (a .1 .1 .0 .now)) sheet in (
       tt,
       (
-        λ hit. told (ltb-true (length out) 1 hit) λ short. told (not-put reportCount found out short) λ n. ((refl, (refl, (refl, (refl, (refl, tt))))), (n .0, (n .1, sym (no-room reportCount out after sheet short)))),
+        λ hit. ((refl, (refl, (refl, (refl, (refl, tt))))), not-put-kept reportCount found out after sheet (ltb-true (length out) 1 hit)),
         λ miss. (
           λ _. tt,
           λ h. λ γ. (
@@ -141,12 +140,10 @@ answers κs qs a good pre bs =
                       refl,
                       λ last. (
                         (refl, (refl, (refl, (fix-len (a .1 .1 .1 .0 .ptr) (a .1 .1 .1 .0 .name) (r .2 .1 .1 .1 .0) sheet back, (fix-len (a .1 .1 .1 .1 .0 .ptr) (a .1 .1 .1 .1 .0 .name) (p .2 .0) out last, tt))))),
-                        told (ltb-false (length out) 1 miss) λ room.
-                            told (r .5 .0 ∙ ap (λ (x : Header). reportReturned (surveyOf x (a .1 .0 .now) (a .1 .1 .0 .now)) (length sheet)) (h .5)) λ e.
-                            told (put reportCount found out room (p .5 .0 ∙ ap packed e) (p .5 .1 ∙ ap (λ (t : Returned). atFront (t .values) out) e)) λ n. (
-                              n .0,
-                              (n .1, r .5 .1 ∙ ap (λ (x : Header). bufferAfter (surveyOf x (a .1 .0 .now) (a .1 .1 .0 .now)) sheet) (h .5) ∙ sym (with-room reportCount out after sheet room)),
-                            ),
+                        put-kept reportCount found out after sheet _ (ltb-false (length out) 1 miss)
+                            (r .5 .0 ∙ ap (λ (x : Header). reportReturned (surveyOf x (a .1 .0 .now) (a .1 .1 .0 .now)) (length sheet)) (h .5))
+                            (p .5 .0) (p .5 .1)
+                            (r .5 .1 ∙ ap (λ (x : Header). bufferAfter (surveyOf x (a .1 .0 .now) (a .1 .1 .0 .now)) sheet) (h .5)),
                       ),
                     ),
                   ),
@@ -162,7 +159,7 @@ pub llunareth-report-spec : {M : Type 1} → statement M
 unfolding Code.routine tablesOf
 llunareth-report-spec {M} 𝓤 H 𝓜 𝓖 𝓡 = let w : World = record { M = M; 𝓤 = 𝓤; H = H; 𝓜 = 𝓜; 𝓖 = 𝓖; 𝓡 = 𝓡 } in
     meets Says.llunareth-report K 2 Code.function body answers w Code.env Key.name (Code.unfolded 𝓤 H 𝓜 𝓡) (
-      header-given-reads.known w Code.env header-given-symbol.name header-given-symbol.routine Code.calls-words·given·header-given (header-given-met.met 𝓤 H 𝓜 𝓖 𝓡),
+      header-given-reads.known w Code.env header-given-symbol.name header-given-symbol.routine Code.calls-handed·header-given (header-given-met.met 𝓤 H 𝓜 𝓖 𝓡),
       knows report-Says.write-report w Code.env write-report-symbol.name write-report-symbol.routine Code.calls-report·sheet·write-report (write-report-met.met 𝓤 H 𝓜 𝓖 𝓡),
-      put-report-reads.known w Code.env put-report-symbol.name put-report-symbol.routine Code.calls-words·answers·put-report (put-report-met.met 𝓤 H 𝓜 𝓖 𝓡),
+      put-report-reads.known w Code.env put-report-symbol.name put-report-symbol.routine Code.calls-answers·survey·put-report (put-report-met.met 𝓤 H 𝓜 𝓖 𝓡),
     )

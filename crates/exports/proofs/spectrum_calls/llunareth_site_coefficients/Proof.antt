@@ -2,7 +2,7 @@ use mathlib.Core.Path.{ap, _∙_}
 use Rattle.members.specs.Finding.{Returned}
 use Rattle.hazard.specs.Site.{siteReturned}
 use Rattle.columns.specs.Line.{atFront}
-use Rattle.words.specs.Words.{packed}
+use Rattle.answers.specs.Packing.{packed}
 use Rattle.exports.specs.SpectrumCalls.{siteCount}
 use Rattle.exports.proofs.Room.{put, not-put}
 use borrow.Author.Needs.{needs}

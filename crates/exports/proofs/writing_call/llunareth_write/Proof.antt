@@ -1,6 +1,6 @@
 use Prim.Native.Nat.{ℕ}
 use mathlib.Core.List.{List, [], _∷_}
-use mathlib.Core.Path.{refl, sym, ap, _∙_}
+use mathlib.Core.Path.{refl, ap, _∙_}
 use lib.ListN.{length}
 use contract.Lifetimes.{Lfts, Shares}
 use contract.Running.{tablesOf}
@@ -13,7 +13,7 @@ use borrow.Rule.Slice.Mut.{mslice, msleft}
 use borrow.Rule.Slice.Relend.{asMut, mslice-owed}
 use borrow.Table.Row.{Cx, lease, off, alive, dead, sBool}
 use borrow.Table.Rows.{sc-here}
-use Rattle.walk.proofs.Walk.{told, S, _⨾_, _▸_, at, slot, from, set, op2, lit, cp, fld, sc, gone, old, forget, when, ret, same, u64}
+use Rattle.walk.proofs.Walk.{S, _⨾_, _▸_, at, slot, from, set, op2, lit, cp, fld, sc, gone, old, forget, when, ret, same, u64}
 use Rattle.walk.proofs.Slice.{R, kept, full, here, mut-len, val-at, sh-at, sh-spares, sh-reads, mut-at, mut-is, mut-reads, slice, lend-on, back-on, owed-len}
 use Rattle.walk.proofs.Array.{begin, end, over}
 use Rattle.walk.proofs.Fn.{Callee, Knows, Body, Answers, entry, callee, knows, call, meets}
@@ -22,24 +22,23 @@ use Rattle.records.specs.declared.Header.{Header}
 use Rattle.records.proofs.Structs.{header, member, storey}
 use Rattle.members.specs.Finding.{Returned}
 use Rattle.writing.specs.Writing.{fileReturned, fileAfter}
-use Rattle.records.specs.Records.{headerBy, surveyOf}
-use Rattle.words.specs.Words.{handed, packed}
+use Rattle.records.specs.Records.{surveyOf}
+use Rattle.handed.specs.Handed.{headerHanded}
 use Rattle.exports.specs.Calls.{fileCount}
-use Rattle.exports.proofs.Room.{with-room, no-room, put, not-put}
-use Rattle.columns.specs.Line.{atFront}
+use Rattle.exports.proofs.Room.{put-kept, not-put-kept}
 use Rattle.exports.proofs.Says as Says
 use Rattle.exports.proofs.Says.{bytes, words}
-use Rattle.words.proofs.given.header_given.Met as header-given-met
-use Rattle.words.proofs.given.header_given.Symbol as header-given-symbol
-use Rattle.words.proofs.given.header_given.Kinds as header-given-kinds
-use Rattle.words.proofs.given.header_given.Reads as header-given-reads
+use Rattle.handed.proofs.header_given.Met as header-given-met
+use Rattle.handed.proofs.header_given.Symbol as header-given-symbol
+use Rattle.handed.proofs.header_given.Kinds as header-given-kinds
+use Rattle.handed.proofs.header_given.Reads as header-given-reads
 use Rattle.writing.proofs.file.write_file.Met as write-file-met
 use Rattle.writing.proofs.file.write_file.Symbol as write-file-symbol
 use Rattle.writing.proofs.Says as writing-Says
-use Rattle.words.proofs.answers.put_file.Met as put-file-met
-use Rattle.words.proofs.answers.put_file.Symbol as put-file-symbol
-use Rattle.words.proofs.answers.put_file.Kinds as put-file-kinds
-use Rattle.words.proofs.answers.put_file.Reads as put-file-reads
+use Rattle.answers.proofs.survey.put_file.Met as put-file-met
+use Rattle.answers.proofs.survey.put_file.Symbol as put-file-symbol
+use Rattle.answers.proofs.survey.put_file.Kinds as put-file-kinds
+use Rattle.answers.proofs.survey.put_file.Reads as put-file-reads
 use Rattle.exports.proofs.writing_call.llunareth_write.Code
 use Rattle.exports.proofs.writing_call.llunareth_write.Key
 use Rattle.exports.proofs.writing_call.llunareth_write.Statement.{statement}
@@ -117,14 +116,14 @@ body κs qs bs =
 
 answers : Answers Says.llunareth-write K 2 Code.function body
 answers κs qs a good pre bs =
-    let h : Header = headerBy (handed (a .0 .now)) in
+    let h : Header = headerHanded (a .0 .now) in
     let out : List ℕ = a .1 .1 .1 .1 .0 .now in
     let sheet : List ℕ = a .1 .1 .1 .0 .now in
     let found : Returned = fileReturned (surveyOf h (a .1 .0 .now) (a .1 .1 .0 .now)) (length sheet) in
     let after : List ℕ = fileAfter (surveyOf h (a .1 .0 .now) (a .1 .1 .0 .now)) sheet in (
       tt,
       (
-        λ hit. told (ltb-true (length out) 1 hit) λ short. told (not-put fileCount found out short) λ n. ((refl, (refl, (refl, (refl, (refl, tt))))), (n .0, (n .1, sym (no-room fileCount out after sheet short)))),
+        λ hit. ((refl, (refl, (refl, (refl, (refl, tt))))), not-put-kept fileCount found out after sheet (ltb-true (length out) 1 hit)),
         λ miss. (
           λ _. tt,
           λ h. λ γ. (
@@ -141,12 +140,10 @@ answers κs qs a good pre bs =
                       refl,
                       λ last. (
                         (refl, (refl, (refl, (fix-len (a .1 .1 .1 .0 .ptr) (a .1 .1 .1 .0 .name) (r .2 .1 .1 .1 .0) sheet back, (fix-len (a .1 .1 .1 .1 .0 .ptr) (a .1 .1 .1 .1 .0 .name) (p .2 .0) out last, tt))))),
-                        told (ltb-false (length out) 1 miss) λ room.
-                            told (r .5 .0 ∙ ap (λ (x : Header). fileReturned (surveyOf x (a .1 .0 .now) (a .1 .1 .0 .now)) (length sheet)) (h .5)) λ e.
-                            told (put fileCount found out room (p .5 .0 ∙ ap packed e) (p .5 .1 ∙ ap (λ (t : Returned). atFront (t .values) out) e)) λ n. (
-                              n .0,
-                              (n .1, r .5 .1 ∙ ap (λ (x : Header). fileAfter (surveyOf x (a .1 .0 .now) (a .1 .1 .0 .now)) sheet) (h .5) ∙ sym (with-room fileCount out after sheet room)),
-                            ),
+                        put-kept fileCount found out after sheet _ (ltb-false (length out) 1 miss)
+                            (r .5 .0 ∙ ap (λ (x : Header). fileReturned (surveyOf x (a .1 .0 .now) (a .1 .1 .0 .now)) (length sheet)) (h .5))
+                            (p .5 .0) (p .5 .1)
+                            (r .5 .1 ∙ ap (λ (x : Header). fileAfter (surveyOf x (a .1 .0 .now) (a .1 .1 .0 .now)) sheet) (h .5)),
                       ),
                     ),
                   ),
@@ -162,7 +159,7 @@ pub llunareth-write-spec : {M : Type 1} → statement M
 unfolding Code.routine tablesOf
 llunareth-write-spec {M} 𝓤 H 𝓜 𝓖 𝓡 = let w : World = record { M = M; 𝓤 = 𝓤; H = H; 𝓜 = 𝓜; 𝓖 = 𝓖; 𝓡 = 𝓡 } in
     meets Says.llunareth-write K 2 Code.function body answers w Code.env Key.name (Code.unfolded 𝓤 H 𝓜 𝓡) (
-      header-given-reads.known w Code.env header-given-symbol.name header-given-symbol.routine Code.calls-words·given·header-given (header-given-met.met 𝓤 H 𝓜 𝓖 𝓡),
+      header-given-reads.known w Code.env header-given-symbol.name header-given-symbol.routine Code.calls-handed·header-given (header-given-met.met 𝓤 H 𝓜 𝓖 𝓡),
       knows writing-Says.write-file w Code.env write-file-symbol.name write-file-symbol.routine Code.calls-writing·file·write-file (write-file-met.met 𝓤 H 𝓜 𝓖 𝓡),
-      put-file-reads.known w Code.env put-file-symbol.name put-file-symbol.routine Code.calls-words·answers·put-file (put-file-met.met 𝓤 H 𝓜 𝓖 𝓡),
+      put-file-reads.known w Code.env put-file-symbol.name put-file-symbol.routine Code.calls-answers·survey·put-file (put-file-met.met 𝓤 H 𝓜 𝓖 𝓡),
     )

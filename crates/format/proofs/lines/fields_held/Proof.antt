@@ -9,10 +9,10 @@ use Rattle.format.proofs.lines.fields_held.Statement.{statement}
 use Rattle.format.proofs.lines.fields_held.Tie as tie
 
 abbrev Inv-loop : tie.InvT-loop
-Inv-loop s at tag n values₀ written₀ c₀ j₀ values written c j = Sofar tag s at n values written (c .at) j
+Inv-loop s at kind n values₀ written₀ c₀ j₀ values written c j = Sofar kind s at n values written (c .at) j
 
 abbrev μ-loop : tie.MeasureT-loop
-μ-loop s at tag n values₀ written₀ c₀ j₀ values written c j = n - j
+μ-loop s at kind n values₀ written₀ c₀ j₀ values written c j = n - j
 
 field-count-requires : tie.Need-field-count-requires Inv-loop μ-loop
 field-count-requires c κs = search needs
@@ -21,7 +21,7 @@ add-t10 : tie.Need-add-t10 Inv-loop μ-loop
 add-t10 c = search needs
 
 loop-holds : tie.Need-loop-holds Inv-loop μ-loop
-loop-holds c = let a = c .before .before .args in let e = c .field-count .ensures in at-first (a .tag) (a .s .now) (a .at) _ _ e (omega (arith, fields-most (a .tag))) refl
+loop-holds c = let a = c .before .before .args in let e = c .field-count .ensures in at-first (a .kind) (a .s .now) (a .at) _ _ e (omega (arith, fields-most (a .kind))) refl
 
 is-force-requires : tie.Need-is-force-requires Inv-loop μ-loop
 is-force-requires c κs = search needs
@@ -54,13 +54,13 @@ loop-again : tie.Need-loop-again Inv-loop μ-loop
 loop-again c =
     let l = c .before .before .before .before .before .before .loop in
     let a = c .before .before .before .before .before .before .before .before .before .args in
-    after (a .tag) (a .s .now) (a .at) _ (l .values) (l .written) (l .c .at) (l .j) (l .inv) (c .before .before .before .before .before .loop-test .taken) (c .before .before .before .field .result)
+    after (a .kind) (a .s .now) (a .at) _ (l .values) (l .written) (l .c .at) (l .j) (l .inv) (c .before .before .before .before .before .loop-test .taken) (c .before .before .before .field .result)
     (rw (c .before .before .before .before .is-force .ensures) at (c .before .before .before .field .ensures)) _ _ _ (c .before .before .number-of .ensures) (c .before .written-too .ensures) (c .next-of .ensures)
 
 returns : tie.Need-returns Inv-loop μ-loop
 returns c =
     let l = c .before .loop in
-    let e : l .j ≡ fields (c .before .before .before .before .args .tag) = omega (arith, l .inv .turn, l .inv .count) in
+    let e : l .j ≡ fields (c .before .before .before .before .args .kind) = omega (arith, l .inv .turn, l .inv .count) in
     record { written = rw e at (l .inv .all-written); values = rw e at (l .inv .held) }
 
 pub fields-held-spec : {M : Type 1} → statement M

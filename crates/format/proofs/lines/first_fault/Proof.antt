@@ -9,10 +9,10 @@ use Rattle.format.proofs.lines.first_fault.Statement.{statement}
 use Rattle.format.proofs.lines.first_fault.Tie as tie
 
 abbrev Inv-loop : tie.InvT-loop
-Inv-loop s at tag storeys n c₀ j₀ c j = Looked tag s at n (c .at) j
+Inv-loop s at kind storeys n c₀ j₀ c j = Looked kind s at n (c .at) j
 
 abbrev μ-loop : tie.MeasureT-loop
-μ-loop s at tag storeys n c₀ j₀ c j = n - j
+μ-loop s at kind storeys n c₀ j₀ c j = n - j
 
 field-count-requires : tie.Need-field-count-requires Inv-loop μ-loop
 field-count-requires c κs = search needs
@@ -21,7 +21,7 @@ add-t10 : tie.Need-add-t10 Inv-loop μ-loop
 add-t10 c = search needs
 
 loop-holds : tie.Need-loop-holds Inv-loop μ-loop
-loop-holds c = let a = c .before .before .args in let e = c .field-count .ensures in looks-first (a .tag) (a .s .now) (a .at) _ e (omega (arith, fields-most (a .tag)))
+loop-holds c = let a = c .before .before .args in let e = c .field-count .ensures in looks-first (a .kind) (a .s .now) (a .at) _ e (omega (arith, fields-most (a .kind)))
 
 is-force-requires : tie.Need-is-force-requires Inv-loop μ-loop
 is-force-requires c κs = search needs
@@ -36,7 +36,7 @@ returns : tie.Need-returns Inv-loop μ-loop
 returns c =
     let l = c .before .before .before .before .before .loop in
     let b = c .before .before .before .before .before .before .before .before in
-    stops (b .args .tag) (b .args .s .now) (b .args .at) _ (l .c .at) (l .j) (b .args .storeys) (c .before .fault-of .result) (l .inv) (c .before .before .before .before .loop-test .taken) (c .before .before .field .result) (rw (c .before .before .before .is-force .ensures) at (c .before .before .field .ensures)) (b .pre .1) (c .before .fault-of .ensures) (c .if1 .taken)
+    stops (b .args .kind) (b .args .s .now) (b .args .at) _ (l .c .at) (l .j) (b .args .storeys) (c .before .fault-of .result) (l .inv) (c .before .before .before .before .loop-test .taken) (c .before .before .field .result) (rw (c .before .before .before .is-force .ensures) at (c .before .before .field .ensures)) (b .pre .1) (c .before .fault-of .ensures) (c .if1 .taken)
 
 next-of-requires : tie.Need-next-of-requires Inv-loop μ-loop
 next-of-requires c κs = search needs
@@ -51,12 +51,12 @@ loop-again : tie.Need-loop-again Inv-loop μ-loop
 loop-again c =
     let l = c .before .before .before .before .before .before .loop in
     let b = c .before .before .before .before .before .before .before .before .before in
-    looks-on (b .args .tag) (b .args .s .now) (b .args .at) _ (l .c .at) (l .j) (b .args .storeys) (c .before .before .fault-of .result) (l .inv) (c .before .before .before .before .before .loop-test .taken) (c .before .before .before .field .result) (rw (c .before .before .before .before .is-force .ensures) at (c .before .before .before .field .ensures)) (b .pre .1) (c .before .before .fault-of .ensures) _ (c .before .if1 .left) (c .next-of .ensures)
+    looks-on (b .args .kind) (b .args .s .now) (b .args .at) _ (l .c .at) (l .j) (b .args .storeys) (c .before .before .fault-of .result) (l .inv) (c .before .before .before .before .before .loop-test .taken) (c .before .before .before .field .result) (rw (c .before .before .before .before .is-force .ensures) at (c .before .before .before .field .ensures)) (b .pre .1) (c .before .before .fault-of .ensures) _ (c .before .if1 .left) (c .next-of .ensures)
 
 returns-2 : tie.Need-returns-2 Inv-loop μ-loop
 returns-2 c =
     let l = c .before .loop in
-    let e : l .j ≡ fields (c .before .before .before .before .args .tag) = omega (arith, l .inv .turn, l .inv .count) in
+    let e : l .j ≡ fields (c .before .before .before .before .args .kind) = omega (arith, l .inv .turn, l .inv .count) in
     sym (rw e at (l .inv .clear))
 
 pub first-fault-spec : {M : Type 1} → statement M

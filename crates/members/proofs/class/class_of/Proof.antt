@@ -1,15 +1,16 @@
 use mathlib.Core.Path.{_≡_, sym, _∙_}
 use mathlib.Core.Bool.{true, false}
 use Rattle.members.specs.Class.{isWall, classOf}
-use borrow.Author.Needs.{needs}
 use Rattle.members.proofs.class.class_of.Statement.{statement}
 use Rattle.members.proofs.class.class_of.Tie as tie
 
 is-wall-requires : tie.Need-is-wall-requires
-is-wall-requires c κs = search needs
+is-wall-requires c κs = tt
 
 wall-class-requires : tie.Need-wall-class-requires
-wall-class-requires c κs = search needs
+wall-class-requires c κs =
+    let p = c .before .before .pre in
+    (p .1 .long, p .0, p .1 .ve, p .1 .vr)
 
 returns : tie.Need-returns
 unfolding classOf
@@ -18,10 +19,12 @@ returns c =
     simp e (c .wall-class .ensures)
 
 is-detailed-requires : tie.Need-is-detailed-requires
-is-detailed-requires c κs = search needs
+is-detailed-requires c κs = c .before .before .pre .1
 
 column-class-requires : tie.Need-column-class-requires
-column-class-requires c κs = search needs
+column-class-requires c κs =
+    let p = c .before .before .before .pre in
+    (p .0, p .1 .ve, p .1 .vr)
 
 returns-2 : tie.Need-returns-2
 unfolding classOf

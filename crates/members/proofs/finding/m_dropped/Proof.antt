@@ -3,7 +3,6 @@ use mathlib.Core.Path.{_≡_, sym, _∙_}
 use mathlib.Core.Bool.{true, false}
 use Rattle.members.specs.Finding.{mDropped}
 use Rattle.members.specs.Class.{isWall}
-use borrow.Author.Needs.{needs}
 use Rattle.members.proofs.finding.m_dropped.Statement.{statement}
 use Rattle.members.proofs.finding.m_dropped.Tie as tie
 
@@ -12,7 +11,7 @@ unfolding mDropped
 returns c = simp (not-true (c .before .args .met) (c .if1 .taken))
 
 is-wall-requires : tie.Need-is-wall-requires
-is-wall-requires c κs = search needs
+is-wall-requires c κs = tt
 
 returns-2 : tie.Need-returns-2
 unfolding mDropped
@@ -27,7 +26,9 @@ returns-3 c =
     simp (w, not-false (c .before .before .before .before .before .args .met) (c .before .before .before .before .if1 .left), le-ltb _ _ (c .if3 .taken))
 
 shear-below-requires : tie.Need-shear-below-requires
-shear-below-requires c κs = search needs
+shear-below-requires c κs =
+    let p = c .before .before .before .before .before .pre in
+    (p .0, p .1 .ve, p .1 .vr)
 
 returns-4 : tie.Need-returns-4
 unfolding mDropped

@@ -14,7 +14,7 @@ right : (c : tie.After-clamp) → c .before .args .y .r2 * (c .clamp .result - c
 right c = product 9_999_999 200_000 (c .before .pre .1 .r2) (omega (arith, c .clamp .ensures, c .before .pre .0 .first, c .before .pre .0 .most))
 
 clamp-requires : tie.Need-clamp-requires
-clamp-requires c κs = search needs
+clamp-requires c κs = c .pre .0 .first
 
 sub-result : tie.Need-sub-result
 sub-result c = search needs

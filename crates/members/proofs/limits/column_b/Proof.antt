@@ -8,7 +8,6 @@ use Rattle.members.specs.declared.tables.Places.{Places}
 use Rattle.members.specs.declared.tables.Table.{Table}
 use Rattle.members.specs.Limits.{interp, gap, per, rowB, columnB}
 use Rattle.members.proofs.Arithmetic.{product}
-use borrow.Author.Needs.{needs}
 use Rattle.members.proofs.limits.column_b.Statement.{statement}
 use Rattle.members.proofs.limits.column_b.Tie as tie
 
@@ -21,19 +20,27 @@ den : (c : tie.After-over-four) → c .over-four .result .den * (c .before .befo
 den c = product 200_000 200_000 (c .over-four .ensures .1) (omega (arith, c .before .before .before .before .before .pre .0 .hoops .most))
 
 row-b-requires : tie.Need-row-b-requires
-row-b-requires c κs = search needs
+row-b-requires c κs =
+    let p = c .pre in
+    (omega (arith, p .0 .axial .first, p .0 .axial .second, p .0 .axial .third, p .0 .axial .most), p .0 .hoops, p .1 .b1 .r1, p .1 .b2 .r1)
 
 row-b-requires-2 : tie.Need-row-b-requires-2
-row-b-requires-2 c κs = search needs
+row-b-requires-2 c κs =
+    let p = c .before .pre in
+    (omega (arith, p .0 .axial .second, p .0 .axial .third, p .0 .axial .most), p .0 .hoops, p .1 .b1 .r2, p .1 .b2 .r2)
 
 row-b-requires-3 : tie.Need-row-b-requires-3
-row-b-requires-3 c κs = search needs
+row-b-requires-3 c κs =
+    let p = c .before .before .pre in
+    (omega (arith, p .0 .axial .third, p .0 .axial .most), p .0 .hoops, p .1 .b1 .r3, p .1 .b2 .r3)
 
 row-b-requires-4 : tie.Need-row-b-requires-4
-row-b-requires-4 c κs = search needs
+row-b-requires-4 c κs =
+    let p = c .before .before .before .pre in
+    (p .0 .axial .most, p .0 .hoops, p .1 .b1 .r4, p .1 .b2 .r4)
 
 over-four-requires : tie.Need-over-four-requires
-over-four-requires c κs = search needs
+over-four-requires c κs = (c .before .before .before .row-b .ensures .1, c .before .before .row-b2 .ensures .1, c .before .row-b3 .ensures .1, c .row-b4 .ensures .1)
 
 sub-t10 : tie.Need-sub-t10
 sub-t10 c = omega (arith, c .before .before .before .before .before .before .pre .0 .hoops .first)

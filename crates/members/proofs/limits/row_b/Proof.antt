@@ -1,12 +1,11 @@
 use native.Mathlib.Omega.{arith}
 use mathlib.Core.Path.{ap}
 use Rattle.members.specs.Limits.{row}
-use borrow.Author.Needs.{needs}
 use Rattle.members.proofs.limits.row_b.Statement.{statement}
 use Rattle.members.proofs.limits.row_b.Tie as tie
 
 blend-requires : tie.Need-blend-requires
-blend-requires c κs = search needs
+blend-requires c κs = (c .pre .1, record { r1 = c .pre .2; r2 = c .pre .3 })
 
 returns : tie.Need-returns
 returns c =

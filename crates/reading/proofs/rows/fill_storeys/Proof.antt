@@ -14,7 +14,7 @@ use borrow.Fn.World.{World}
 use borrow.Rule.Slice.Mut.{setVals}
 use borrow.Table.Row.{Cx, sPtr, sBool, sUnit}
 use borrow.Table.Rows.{sc-here}
-use Rattle.walk.proofs.Walk.{S, _⨾_, _▸_, _◂_, told, at, from, set, op2, lit, unit, cp, fld, sc, gone, old, forget, falls, test, while, exits, ret, same, u64}
+use Rattle.walk.proofs.Walk.{S, _⨾_, _▸_, told, at, from, set, op2, lit, unit, cp, fld, sc, gone, old, forget, falls, test, while, exits, ret, same, u64}
 use Rattle.walk.proofs.Slice.{R, kept, full, here, mut-ptr, val-at, sh-at, sh-spares, sh-reads, elem-in}
 use Rattle.walk.proofs.Fn.{Callee, Knows, Body, Answers, entry, call, meets}
 use Rattle.records.proofs.Structs.{storey, storey-bytes}
@@ -53,70 +53,71 @@ abbrev start : Lfts 2 → Shares 2 → Cx
 start κs qs = entry Says.fill-storeys K 0 Code.function κs qs
 
 abbrev cx1 : Lfts 2 → Shares 2 → Cx
-cx1 κs qs = at 4 (sc-here u64) (at 5 (sc-here u64) (start κs qs))
+cx1 κs qs = at 5 (sc-here u64) (at 6 (sc-here u64) (start κs qs))
 
 abbrev cx2 : Lfts 2 → Shares 2 → Cx
-cx2 κs qs = at 4 (sc-here u64) (at 5 (sc-here u64) (at 6 (kept storey) (at 9 (sc-here sPtr) (start κs qs))))
+cx2 κs qs = at 5 (sc-here u64) (at 6 (sc-here u64) (at 7 (kept storey) (at 10 (sc-here sPtr) (start κs qs))))
 
 abbrev body : Body Says.fill-storeys K 0 Code.function
 body κs qs bs =
-    set 4 u64 (lit w64 0 tt) gone refl (λ u. refl) (λ u. tt) ⨾
     set 5 u64 (lit w64 0 tt) gone refl (λ u. refl) (λ u. tt) ⨾
-    from (cx1 κs qs) (while (λ (vs : List Storey × ℕ × ℕ) u. (u .0, (u .1 .0, (setVals (vs .0) (u .1 .1 .0), (u .1 .1 .1 .0, (vs .1, (vs .2, u .1 .1 .1 .1 .1 .1)))))))
-    (λ u vs. (vs .2 ≤ u .1 .1 .1 .0) × (vs .1 ≡ membersBefore (u .1 .0 .now) (vs .2)) × (length (vs .0) ≡ length (u .1 .1 .0 .now)) × (vs .0 ≡ placed (storeyOf (u .1 .0 .now)) 0 (vs .2) (u .1 .1 .0 .now)))
-    (λ u vs. u .1 .1 .1 .0 - vs .2)
-    (op2 7 sBool (lt unsigned) (cp 5 (sc u64)) (cp 3 (sc u64)) gone refl (λ u. refl) (λ u. tt) ⨾
-    test 7 (λ t. t) (sc sBool) (old sBool) refl (exits 1 tt)
-    (from (cx1 κs qs) (call the-storey-at (λ s k. k .0) 6 (0 ∷ []) (sh-at 1 τ1 (λ x. x), (vAt 5 (λ x. x), (vAt 4 (λ x. x), tt))) (λ s. (sh-spares s bytes τ1 0, sh-reads s bytes τ1 0, refl, ((sc u64 .is s, refl), ((sc u64 .is s, refl), tt)))) gone (tt, tt) refl ⨾
-    op2 8 u64 (mul unsigned) (cp 5 (sc u64)) (lit w64 storey-bytes tt) gone refl (λ u. refl) (λ u. tt) ⨾
-    op2 9 sPtr offset (fld 2 0 (mut-ptr (R storey) 1) refl) (cp 8 (sc u64)) gone refl (λ u. refl) (λ u. tt) ⨾
-    elem-in storey 9 6 2 5 1 (λ i. i) same same (here storey) tt refl refl ⨾
-    forget 8 (old u64) ▸
-    from (cx2 κs qs) (forget 9 (old sPtr) ▸
-    call the-count-of (λ s k. k .1) 8 [] (val-at 6 (λ x. x), tt) (λ s. ((here storey .is s, refl), tt)) gone tt refl ⨾
-    forget 6 (full storey) ▸
-    op2 4 u64 (add unsigned) (cp 4 (sc u64)) (cp 8 (sc u64)) (old u64) refl (λ u. refl) (λ u. tt) ⨾
-    forget 8 (old u64) ▸
-    falls tt (op2 5 u64 (add unsigned) (cp 5 (sc u64)) (lit w64 1 tt) (old u64) refl (λ u. refl) (λ u. tt))))))
+    set 6 u64 (lit w64 0 tt) gone refl (λ u. refl) (λ u. tt) ⨾
+    from (cx1 κs qs) (while (λ (vs : List Storey × ℕ × ℕ) u. (u .0, (u .1 .0, (setVals (vs .0) (u .1 .1 .0), (u .1 .1 .1 .0, (u .1 .1 .1 .1 .0, (vs .1, (vs .2, u .1 .1 .1 .1 .1 .1 .1))))))))
+    (λ u vs. (vs .2 ≤ u .1 .1 .1 .1 .0) × (vs .1 ≡ membersBefore (u .1 .1 .1 .0) (u .1 .0 .now) (vs .2)) × (length (vs .0) ≡ length (u .1 .1 .0 .now)) × (vs .0 ≡ placed (storeyOf (u .1 .1 .1 .0) (u .1 .0 .now)) 0 (vs .2) (u .1 .1 .0 .now)))
+    (λ u vs. u .1 .1 .1 .1 .0 - vs .2)
+    (op2 8 sBool (lt unsigned) (cp 6 (sc u64)) (cp 4 (sc u64)) gone refl (λ u. refl) (λ u. tt) ⨾
+    test 8 (λ t. t) (sc sBool) (old sBool) refl (exits 1 tt)
+    (from (cx1 κs qs) (call the-storey-at (λ s k. k .0) 7 (0 ∷ []) (sh-at 1 τ1 (λ x. x), (vAt 3 (λ x. x), (vAt 6 (λ x. x), (vAt 5 (λ x. x), tt)))) (λ s. (sh-spares s bytes τ1 0, sh-reads s bytes τ1 0, refl, ((sc u64 .is s, refl), ((sc u64 .is s, refl), ((sc u64 .is s, refl), tt))))) gone (tt, tt) refl ⨾
+    op2 9 u64 (mul unsigned) (cp 6 (sc u64)) (lit w64 storey-bytes tt) gone refl (λ u. refl) (λ u. tt) ⨾
+    op2 10 sPtr offset (fld 2 0 (mut-ptr (R storey) 1) refl) (cp 9 (sc u64)) gone refl (λ u. refl) (λ u. tt) ⨾
+    elem-in storey 10 7 2 6 1 (λ i. i) same same (here storey) tt refl refl ⨾
+    forget 9 (old u64) ▸
+    from (cx2 κs qs) (forget 10 (old sPtr) ▸
+    call the-count-of (λ s k. k .1) 9 [] (val-at 7 (λ x. x), tt) (λ s. ((here storey .is s, refl), tt)) gone tt refl ⨾
+    forget 7 (full storey) ▸
+    op2 5 u64 (add unsigned) (cp 5 (sc u64)) (cp 9 (sc u64)) (old u64) refl (λ u. refl) (λ u. tt) ⨾
+    forget 9 (old u64) ▸
+    falls tt (op2 6 u64 (add unsigned) (cp 6 (sc u64)) (lit w64 1 tt) (old u64) refl (λ u. refl) (λ u. tt))))))
     (set 0 sUnit unit gone refl (λ u. refl) (λ u. tt) ⨾
-    forget 4 (old u64) ▸
     forget 5 (old u64) ▸
+    forget 6 (old u64) ▸
     forget 3 (old u64) ▸
+    forget 4 (old u64) ▸
     ret tt))
 
 answers : Answers Says.fill-storeys K 0 Code.function body
-answers κs qs a good pre bs =
-    ((a .1 .0 .now, 0, 0), refl, (omega arith, before-none _, refl, placed-none _ _ _)) ◂ λ vs inv. (
-      tt,
-      (
-        λ taken. told (ltb-true (vs .2) (a .1 .1 .0) taken) λ l. (
-          λ _. storey-lies (a .0 .now) (a .1 .1 .0) (pre .0) (vs .2) (vs .1) l (inv .1),
-          λ g. (
-            search needs,
+answers κs qs a good pre bs = (
+  ((a .1 .0 .now, 0, 0), refl, (omega arith, before-none _ _, refl, placed-none _ _ _)),
+  λ vs inv. (
+    tt,
+    (
+      λ taken. told (ltb-true (vs .2) (a .1 .1 .1 .0) taken) λ l. (
+        λ _. storey-lies (a .1 .1 .0) (a .0 .now) (a .1 .1 .1 .0) (pre .0) (vs .2) (vs .1) l (inv .1),
+        λ g. (
+          search needs,
+          (
+            tt,
             (
-              tt,
+              (refl, refl, omega arith),
               (
-                (refl, refl, omega arith),
-                (
-                  λ _. tt,
-                  λ k. told (next-small (a .0 .now) (a .1 .1 .0) (pre .0) (vs .2) (vs .1) l (inv .1) (g .1) (k .1) (g .5) (k .5)) λ p. (
+                λ _. tt,
+                λ k. told (next-small (a .1 .1 .0) (a .0 .now) (a .1 .1 .1 .0) (pre .0) (vs .2) (vs .1) l (inv .1) (g .1) (k .1) (g .5) (k .5)) λ p. (
+                  search needs,
+                  (
                     search needs,
                     (
-                      search needs,
+                      a .1 .1 .1 .0 - (vs .2 + 1),
+                      omega arith,
                       (
-                        a .1 .1 .0 - (vs .2 + 1),
-                        omega arith,
+                        (setL (vs .0) (vs .2) (g .1), vs .1 + k .1, vs .2 + 1),
+                        refl,
                         (
-                          (setL (vs .0) (vs .2) (g .1), vs .1 + k .1, vs .2 + 1),
-                          refl,
-                          (
-                            omega arith,
-                            before-next (a .0 .now) (a .1 .1 .0) (pre .0) (vs .2) (vs .1) l (inv .1) (g .1) (k .1) (g .5) (k .5),
-                            length-set (vs .0) (vs .2) (g .1) ∙ inv .2,
-                            placed-step _ _ _ (vs .2) _ _ _ (inv .3) (storey-is (a .0 .now) (a .1 .1 .0) (pre .0) (vs .2) (vs .1) l (inv .1) (g .1) (k .1) (g .5) (k .5)) (omega arith),
-                          ),
-                          refl,
+                          omega arith,
+                          before-next (a .1 .1 .0) (a .0 .now) (a .1 .1 .1 .0) (pre .0) (vs .2) (vs .1) l (inv .1) (g .1) (k .1) (g .5) (k .5),
+                          length-set (vs .0) (vs .2) (g .1) ∙ inv .2,
+                          placed-step _ _ _ (vs .2) _ _ _ (inv .3) (storey-is (a .1 .1 .0) (a .0 .now) (a .1 .1 .1 .0) (pre .0) (vs .2) (vs .1) l (inv .1) (g .1) (k .1) (g .5) (k .5)) (omega arith),
                         ),
+                        refl,
                       ),
                     ),
                   ),
@@ -125,10 +126,12 @@ answers κs qs a good pre bs =
             ),
           ),
         ),
-        λ left. told (ltb-false (vs .2) (a .1 .1 .0) left) λ l.
-            ((refl, (fix-len (a .1 .0 .ptr) (a .1 .0 .name) (vs .0) (a .1 .0 .now) (inv .2), (tt, tt))), placed-all _ _ _ (vs .2) _ _ (inv .3) (inv .0) l),
       ),
-    )
+      λ left. told (ltb-false (vs .2) (a .1 .1 .1 .0) left) λ l.
+          ((refl, (fix-len (a .1 .0 .ptr) (a .1 .0 .name) (vs .0) (a .1 .0 .now) (inv .2), (tt, (tt, tt)))), placed-all _ _ _ (vs .2) _ _ (inv .3) (inv .0) l),
+    ),
+  ),
+)
 
 pub fill-storeys-spec : {M : Type 1} → statement M
 unfolding Code.routine tablesOf

@@ -1,6 +1,6 @@
-use mathlib.Core.Path.{refl}
+use native.Mathlib.Omega.{arith}
 use Rattle.report.specs.Printing.{memberLineSize}
-use Rattle.report.proofs.Printing.{line-put, member-line-is}
+use Rattle.report.proofs.Printing.{line-put, member-line-four, member-line-old, case-most, size-four, size-old}
 use borrow.Author.Needs.{needs}
 use Rattle.report.proofs.printed.put_finding.Statement.{statement}
 use Rattle.report.proofs.printed.put_finding.Tie as tie
@@ -10,6 +10,9 @@ code-requires c κs = search needs
 
 flag-requires : tie.Need-flag-requires
 flag-requires c κs = search needs
+
+add-t15 : tie.Need-add-t15
+add-t15 c = let b = c .before .before .before .before in omega (arith, case-most (b .args .form) (b .args .c) (b .pre .0))
 
 slice-aggregate-put-line : tie.Need-slice-aggregate-put-line
 slice-aggregate-put-line c = search needs
@@ -25,10 +28,33 @@ same-length c = search needs
 
 returns : tie.Need-returns
 returns c =
-    let a = c .before .before .before .before .before .before .before .before .before .args in
+    let t = c .before .before .before .before .before .before in
+    let b = t .before .before .before .before in
+    let a = b .args in
     let l = c .before .before .put-line in
-    line-put _ _ _ (a .out .now) _ (a .at) _ memberLineSize (member-line-is (a .number) (c .before .before .before .before .before .before .before .code .result) (c .before .before .before .before .before .before .flag .result) (a .f) (c .before .before .before .before .before .before .before .code .ensures) (c .before .before .before .before .before .before .flag .ensures))
-    refl (c .before .before .before .before .before .before .before .before .before .pre) (l .ensures .0) (l .ensures .1)
+    line-put _ _ _ (a .out .now) _ (a .at) _ (memberLineSize (a .form)) (member-line-four (a .form) (a .c) (a .number) _ _ (a .f) (t .if1 .taken) (t .before .before .code .ensures) (t .before .flag .ensures))
+    (size-four (a .form) 8 7 (t .if1 .taken)) (b .pre .1) (l .ensures .0) (l .ensures .1)
+
+slice-aggregate-put-line-3 : tie.Need-slice-aggregate-put-line-3
+slice-aggregate-put-line-3 c = search needs
+
+slice-aggregate-put-line-4 : tie.Need-slice-aggregate-put-line-4
+slice-aggregate-put-line-4 c = search needs
+
+put-line-requires-2 : tie.Need-put-line-requires-2
+put-line-requires-2 c κs = search needs
+
+same-length-2 : tie.Need-same-length-2
+same-length-2 c = search needs
+
+returns-2 : tie.Need-returns-2
+returns-2 c =
+    let t = c .before .before .before .before .before .before in
+    let b = t .before .before .before .before in
+    let a = b .args in
+    let l = c .before .before .put-line2 in
+    line-put _ _ _ (a .out .now) _ (a .at) _ (memberLineSize (a .form)) (member-line-old (a .form) (a .c) (a .number) _ _ (a .f) (t .if1 .left) (t .before .before .code .ensures) (t .before .flag .ensures))
+    (size-old (a .form) 8 7 (t .if1 .left)) (b .pre .1) (l .ensures .0) (l .ensures .1)
 
 pub put-finding-spec : {M : Type 1} → statement M
 put-finding-spec =
@@ -36,8 +62,14 @@ put-finding-spec =
     (tie.spec
     code-requires
     flag-requires
+    add-t15
     slice-aggregate-put-line
     slice-aggregate-put-line-2
     put-line-requires
     same-length
-    returns)
+    returns
+    slice-aggregate-put-line-3
+    slice-aggregate-put-line-4
+    put-line-requires-2
+    same-length-2
+    returns-2)

@@ -7,8 +7,11 @@ use borrow.Author.Needs.{needs}
 use Rattle.report.proofs.printed.put_member.Statement.{statement}
 use Rattle.report.proofs.printed.put_member.Tie as tie
 
-judge-member-requires : tie.Need-judge-member-requires
-judge-member-requires c κs = search needs
+in-case-requires : tie.Need-in-case-requires
+in-case-requires c κs = search needs
+
+judge-case-requires : tie.Need-judge-case-requires
+judge-case-requires c κs = search needs
 
 enum-known-f : tie.Need-enum-known-f
 enum-known-f c = search needs
@@ -27,25 +30,38 @@ same-length c = search needs
 
 returns : tie.Need-returns
 returns c =
-    let a = c .before .before .before .before .before .before .before .before .before .before .before .args in
-    let p = c .before .before .before .before .before .before .before .before .before .before .before .pre .0 in
-    let j = c .before .before .before .before .before .before .before .before .before .judge-member in
+    let b = c .before .before .before .before .before .before .before .before .before .before .before .before in
+    let a = b .args in
+    let i = c .before .before .before .before .before .before .before .before .before .before .in-case in
+    let j = c .before .before .before .before .before .before .before .before .before .judge-case in
     let g = c .before .before .before .before .before .before .before .f .given in
     let l = c .before .before .put-finding in
-    let e = finding-same (a .k) (a .met) (a .m) (p .knowledge-level) (p .good) (j .result) (g .0 .0) (j .ensures) (g .1) in (
+    let m = inCase (a .c) (a .m) in
+    let e = finding-same (a .k) (a .met) m (b .pre .0 .knowledge-level) (b .pre .0 .good) (j .result) (g .0 .0) (rw (i .ensures) at (j .ensures)) (g .1) in (
       l .ensures .0,
       (
-        c .before .before .before .before .add-finding .ensures ∙ with-good (a .r .tally) (a .k) (a .met) (a .m) (g .0 .0) p e,
-        member-line-of (l .last .0) (a .out .now) (a .r .at) (a .m .number) (g .0 .0) (finding (a .k) (a .met) (inCase (a .m))) (l .ensures .1) e,
+        rw (i .ensures) at (c .before .before .before .before .add-finding .ensures) ∙ with-good (a .r .tally) (a .k) (a .met) m (g .0 .0) (b .pre .0) e,
+        member-line-of (l .last .0) (a .out .now) (a .r .at) (a .form) (a .c) (a .m .number) (g .0 .0) (finding (a .k) (a .met) m) (l .ensures .1) e,
       ),
     )
 
 returns-2 : tie.Need-returns-2
 returns-2 c =
-    let a = c .before .before .before .before .args in
-    let p = c .before .before .before .before .pre .0 in
-    let j = c .before .before .judge-member in
-    absurd (not-refused (a .k) (a .met) (a .m) (p .knowledge-level) (p .good) (j .result) _ (j .ensures) (c .enum-told .given .1))
+    let b = c .before .before .before .before .before in
+    let a = b .args in
+    let j = c .before .before .judge-case in
+    absurd (not-refused (a .k) (a .met) (inCase (a .c) (a .m)) (b .pre .0 .knowledge-level) (b .pre .0 .good) (j .result) _ (rw (c .before .before .before .in-case .ensures) at (j .ensures)) (c .enum-told .given .1))
 
 pub put-member-spec : {M : Type 1} → statement M
-put-member-spec = tie.close (tie.spec judge-member-requires enum-known-f add-finding-requires put-finding-requires enum-told same-length returns returns-2)
+put-member-spec =
+    tie.close
+    (tie.spec
+    in-case-requires
+    judge-case-requires
+    enum-known-f
+    add-finding-requires
+    put-finding-requires
+    enum-told
+    same-length
+    returns
+    returns-2)

@@ -39,43 +39,44 @@ the-put-members = callee Says.put-members put-members-symbol.name
 abbrev K : S → Type 1
 K s = Knows the-put-storey s × Knows the-put-members s
 
-abbrev τ4 : Ty
-τ4 = tyRef (named 1) imm (pointee (R member .written))
+abbrev τ5 : Ty
+τ5 = tyRef (named 1) imm (pointee (R member .written))
 
-abbrev τ7 : Ty
-τ7 = tyRef erased mut (tyInt w8)
+abbrev τ8 : Ty
+τ8 = tyRef erased mut (tyInt w8)
 
 abbrev start : Lfts 2 → Shares 2 → Cx
 start κs qs = entry Says.put-storey-lines K 2 Code.function κs qs
 
 abbrev cx2 : Lfts 2 → Shares 2 → Cx
-cx2 κs qs = at 5 (sc-here u64) (slot 2 dead (start κs qs))
+cx2 κs qs = at 6 (sc-here u64) (slot 2 dead (start κs qs))
 
 abbrev cx3 : Lfts 2 → Shares 2 → Cx
-cx3 κs qs = at 0 (sc-here u64) (at 1 (mslice-owed bytes (tyRef (named 0) mut (tyInt w8)) 0 3 (lease (κs .0) (qs .0))) (at 5 (sc-here u64) (at 9 (msleft bytes (tyRef erased mut (tyInt w8))) (slot 0 off (slot 3 alive (start κs qs))))))
+cx3 κs qs = at 0 (sc-here u64) (at 1 (mslice-owed bytes (tyRef (named 0) mut (tyInt w8)) 0 3 (lease (κs .0) (qs .0))) (at 6 (sc-here u64) (at 10 (msleft bytes (tyRef erased mut (tyInt w8))) (slot 0 off (slot 3 alive (start κs qs))))))
 
 abbrev cx4 : Lfts 2 → Shares 2 → Cx
-cx4 κs qs = at 0 (sc-here u64) (at 2 (any-gone (tyInt w64)) (at 3 (any-gone (ty storey)) (start κs qs)))
+cx4 κs qs = at 0 (sc-here u64) (at 2 (any-gone (tyInt w64)) (at 3 (any-gone (tyInt w64)) (at 4 (any-gone (ty storey)) (start κs qs))))
 
 abbrev body : Body Says.put-storey-lines K 2 Code.function
 body κs qs bs =
-    begin 2 (tt, (tt, (tt, (tt, (tt, (tt, (tt, (tt, (tt, (tt, tt)))))))))) ▸
-    lend-on bytes 6 1 0 2 same gone tt refl refl (λ b o. tt) ⨾
-    slice bytes (asMut bytes) 7 6 2 (fld 1 1 (owed-len bytes 0 2 (lease (κs .0) (qs .0))) refl) same gone refl refl (λ b o k. tt) ⨾
-    call the-put-storey (λ s k. k .0) 5 (2 ∷ []) (mut-at 7 τ7 (λ x. x), (vAt 2 (λ x. x), (val-at 3 (λ x. x), tt))) (λ s. (mut-is s bytes τ7 2, mut-reads s bytes τ7 2, refl, ((sc u64 .is s, refl), ((here storey .is s, refl), tt)))) gone (tt, tt) refl ⨾
+    begin 2 (tt, (tt, (tt, (tt, (tt, (tt, (tt, (tt, (tt, (tt, (tt, tt))))))))))) ▸
+    lend-on bytes 7 1 0 2 same gone tt refl refl (λ b o. tt) ⨾
+    slice bytes (asMut bytes) 8 7 2 (fld 1 1 (owed-len bytes 0 2 (lease (κs .0) (qs .0))) refl) same gone refl refl (λ b o k. tt) ⨾
+    call the-put-storey (λ s k. k .0) 6 (2 ∷ []) (mut-at 8 τ8 (λ x. x), (vAt 2 (λ x. x), (vAt 3 (λ x. x), (val-at 4 (λ x. x), tt)))) (λ s. (mut-is s bytes τ8 2, mut-reads s bytes τ8 2, refl, ((sc u64 .is s, refl), ((sc u64 .is s, refl), ((here storey .is s, refl), tt))))) gone (tt, tt) refl ⨾
     end 2 refl ▸
-    back-on bytes 7 1 0 2 (lease (κs .0) (qs .0)) same same refl refl ▸
+    back-on bytes 8 1 0 2 (lease (κs .0) (qs .0)) same same refl refl ▸
     from (cx2 κs qs) (over 2 ▸
-    begin 3 (tt, (tt, (tt, (tt, (tt, (tt, (tt, (tt, (tt, (tt, tt)))))))))) ▸
-    lend-on bytes 8 1 0 3 same gone tt refl refl (λ b o. tt) ⨾
-    slice bytes (asMut bytes) 9 8 3 (fld 1 1 (owed-len bytes 0 3 (lease (κs .0) (qs .0))) refl) same gone refl refl (λ b o k. tt) ⨾
-    call the-put-members (λ s k. k .1) 0 (3 ∷ 1 ∷ []) (mut-at 9 τ7 (λ x. x), (vAt 5 (λ x. x), (sh-at 4 τ4 (λ x. x), tt))) (λ s. (mut-is s bytes τ7 3, mut-reads s bytes τ7 3, refl, ((sc u64 .is s, refl), (sh-spares s (R member) τ4 1, sh-reads s (R member) τ4 1, refl, tt)))) gone (tt, (tt, tt)) refl ⨾
-    from (cx3 κs qs) (forget 3 (full storey) ▸
-    forget 5 (old u64) ▸
+    begin 3 (tt, (tt, (tt, (tt, (tt, (tt, (tt, (tt, (tt, (tt, (tt, tt))))))))))) ▸
+    lend-on bytes 9 1 0 3 same gone tt refl refl (λ b o. tt) ⨾
+    slice bytes (asMut bytes) 10 9 3 (fld 1 1 (owed-len bytes 0 3 (lease (κs .0) (qs .0))) refl) same gone refl refl (λ b o k. tt) ⨾
+    call the-put-members (λ s k. k .1) 0 (3 ∷ 1 ∷ []) (mut-at 10 τ8 (λ x. x), (vAt 6 (λ x. x), (vAt 3 (λ x. x), (sh-at 5 τ5 (λ x. x), tt)))) (λ s. (mut-is s bytes τ8 3, mut-reads s bytes τ8 3, refl, ((sc u64 .is s, refl), ((sc u64 .is s, refl), (sh-spares s (R member) τ5 1, sh-reads s (R member) τ5 1, refl, tt))))) gone (tt, (tt, tt)) refl ⨾
+    from (cx3 κs qs) (forget 4 (full storey) ▸
+    forget 6 (old u64) ▸
     end 3 refl ▸
-    back-on bytes 9 1 0 3 (lease (κs .0) (qs .0)) same same refl refl ▸
+    back-on bytes 10 1 0 3 (lease (κs .0) (qs .0)) same same refl refl ▸
     over 3 ▸
     forget 2 (old u64) ▸
+    forget 3 (old u64) ▸
     from (cx4 κs qs) (ret tt)))
 
 answers : Answers Says.put-storey-lines K 2 Code.function body
@@ -92,8 +93,8 @@ answers κs qs a good pre bs = λ γ. (
           λ h. (
             refl,
             λ last. (
-              (fix-len (a .0 .ptr) (a .0 .name) (h .2 .0) (a .0 .now) (last ∙ back), (tt, (tt, (refl, tt)))),
-              (omega (arith, h .5 .0, g .5 .0), storey-done (a .0 .now) (g .2 .0) (h .2 .0) (a .1 .0) (g .1) (a .1 .1 .0) (a .1 .1 .1 .0 .now) (g .5 .1) (g .5 .0) (h .5 .1)),
+              (fix-len (a .0 .ptr) (a .0 .name) (h .2 .0) (a .0 .now) (last ∙ back), (tt, (tt, (tt, (refl, tt))))),
+              (omega (arith, h .5 .0, g .5 .0), storey-done (a .1 .1 .0) (a .0 .now) (g .2 .0) (h .2 .0) (a .1 .0) (g .1) (a .1 .1 .1 .0) (a .1 .1 .1 .1 .0 .now) (g .5 .1) (g .5 .0) (h .5 .1)),
             ),
           ),
         ),

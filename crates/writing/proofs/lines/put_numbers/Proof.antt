@@ -12,10 +12,10 @@ use Rattle.writing.proofs.lines.put_numbers.Statement.{statement}
 use Rattle.writing.proofs.lines.put_numbers.Tie as tie
 
 abbrev Inv-loop : tie.InvT-loop
-Inv-loop out₀ at tag values p₀ j₀ out p j = (j ≤ length values) × (p ≡ at + 8 * j) × (length out ≡ length out₀) × (stamped out p (fieldsText tag j (drop j values)) ≡ stamped out₀ at (fieldsText tag 0 values))
+Inv-loop out₀ at kind values p₀ j₀ out p j = (j ≤ length values) × (p ≡ at + 8 * j) × (length out ≡ length out₀) × (stamped out p (fieldsText kind j (drop j values)) ≡ stamped out₀ at (fieldsText kind 0 values))
 
 abbrev μ-loop : tie.MeasureT-loop
-μ-loop out₀ at tag values p₀ j₀ out p j = length values - j
+μ-loop out₀ at kind values p₀ j₀ out p j = length values - j
 
 loop-holds : tie.Need-loop-holds Inv-loop μ-loop
 loop-holds c = (omega arith, omega arith, refl, refl)
@@ -47,11 +47,11 @@ loop-again c =
     let f = c .before .before .put-number in
     let taken = c .before .before .before .before .before .before .loop-test .taken in
     let v = getD (a .values .now) (l .j) 0 in
-    let q : f .last .0 ≡ stamped (l .out) (l .p) (fieldText (isForce (a .tag) (l .j)) v) = f .ensures .1 ∙ rw (c .before .before .before .before .is-force .ensures) in (
+    let q : f .last .0 ≡ stamped (l .out) (l .p) (fieldText (isForce (a .kind) (l .j)) v) = f .ensures .1 ∙ rw (c .before .before .before .before .is-force .ensures) in (
       omega arith,
       omega (arith, f .ensures .0, l .inv .1),
-      kept-length (f .last .0) (l .out) (l .p) (fieldText (isForce (a .tag) (l .j)) v) q ∙ l .inv .2,
-      numbers-next (a .tag) (l .out) _ (f .last .0) (a .values .now) (l .p) (f .result) (l .j) (l .inv .3) taken q (f .ensures .0),
+      kept-length (f .last .0) (l .out) (l .p) (fieldText (isForce (a .kind) (l .j)) v) q ∙ l .inv .2,
+      numbers-next (a .kind) (l .out) _ (f .last .0) (a .values .now) (l .p) (f .result) (l .j) (l .inv .3) taken q (f .ensures .0),
     )
 
 same-length : tie.Need-same-length Inv-loop μ-loop
@@ -62,7 +62,7 @@ returns c =
     let l = c .before .loop in
     let a = c .before .before .before .before .args in
     let left = c .loop-test .left in
-    (omega (arith, l .inv .0, l .inv .1, left), numbers-end (a .tag) (l .out) _ (a .values .now) (l .p) (l .j) (l .inv .3) left)
+    (omega (arith, l .inv .0, l .inv .1, left), numbers-end (a .kind) (l .out) _ (a .values .now) (l .p) (l .j) (l .inv .3) left)
 
 pub put-numbers-spec : {M : Type 1} → statement M
 put-numbers-spec =

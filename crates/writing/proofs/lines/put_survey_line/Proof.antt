@@ -28,7 +28,7 @@ slice-write-out-2 c =
     let a = c .before .before .before .before .before .before .before .args in
     let f = c .before .before .put-numbers in
     let t = c .before .before .before .before .tag-byte in
-    let l = kept-length (f .last .0) (set (a .out .now) (a .at) (t .result)) (a .at + 1) (fieldsText (a .tag) 0 (a .values .now)) (f .ensures .1) ∙ length-set (a .out .now) (a .at) (t .result) in
+    let l = kept-length (f .last .0) (set (a .out .now) (a .at) (t .result)) (a .at + 1) (fieldsText (a .kind) 0 (a .values .now)) (f .ensures .1) ∙ length-set (a .out .now) (a .at) (t .result) in
     omega (arith, l, f .ensures .0, c .before .before .before .before .before .before .before .pre)
 
 add-result : tie.Need-add-result
@@ -39,15 +39,15 @@ same-length c =
     let a = c .before .before .before .before .before .before .before .args in
     let f = c .before .before .put-numbers in
     let t = c .before .before .before .before .tag-byte in
-    length-set (f .last .0) _ _ ∙ (kept-length (f .last .0) (set (a .out .now) (a .at) (t .result)) (a .at + 1) (fieldsText (a .tag) 0 (a .values .now)) (f .ensures .1) ∙ length-set (a .out .now) (a .at) (t .result))
+    length-set (f .last .0) _ _ ∙ (kept-length (f .last .0) (set (a .out .now) (a .at) (t .result)) (a .at + 1) (fieldsText (a .kind) 0 (a .values .now)) (f .ensures .1) ∙ length-set (a .out .now) (a .at) (t .result))
 
 returns : tie.Need-returns
 returns c =
     let a = c .before .before .before .before .before .before .before .args in
     let f = c .before .before .put-numbers in
     let t = c .before .before .before .before .tag-byte in
-    let q : f .last .0 ≡ stamped (set (a .out .now) (a .at) (tagByte (a .tag))) (a .at + 1) (fieldsText (a .tag) 0 (a .values .now)) = f .ensures .1 ∙ ap (λ (x : ℕ). stamped (set (a .out .now) (a .at) x) (a .at + 1) (fieldsText (a .tag) 0 (a .values .now))) (t .ensures) in
-    (omega (arith, f .ensures .0), line-done (a .tag) (a .out .now) (f .last .0) (a .values .now) (a .at) (f .result) q (f .ensures .0))
+    let q : f .last .0 ≡ stamped (set (a .out .now) (a .at) (tagByte (a .kind))) (a .at + 1) (fieldsText (a .kind) 0 (a .values .now)) = f .ensures .1 ∙ ap (λ (x : ℕ). stamped (set (a .out .now) (a .at) x) (a .at + 1) (fieldsText (a .kind) 0 (a .values .now))) (t .ensures) in
+    (omega (arith, f .ensures .0), line-done (a .kind) (a .out .now) (f .last .0) (a .values .now) (a .at) (f .result) q (f .ensures .0))
 
 pub put-survey-line-spec : {M : Type 1} → statement M
 put-survey-line-spec =

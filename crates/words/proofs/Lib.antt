@@ -1,3 +1,0 @@
-pub mod Front
-pub mod Packed
-pub mod Values
