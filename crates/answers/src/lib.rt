@@ -1,4 +1,6 @@
 // Answers put out as numbers, for the calls for other languages.
+#![tactic(auto)]
+
 pub mod site;
 pub mod survey;
 

@@ -1,4 +1,6 @@
 // The checks of a survey's records over lent rows. Whole records are moved here; whatever looks into one is in `row`.
+#![tactic(auto)]
+
 mod row;
 
 ghost use Rattle.std.specs.Prelude.{◌≡◌, ℕ, ◌≤◌, eqb, length};

@@ -1,2 +1,4 @@
 // Putting text and numbers in columns into lent bytes.
+#![tactic(auto)]
+
 pub mod line;

@@ -1,5 +1,7 @@
 // From the bytes of a survey file to the bytes of the sheet, or of the `E` line (document 01, "The printed sheet"). The length of the longest input and the numbers
 // of rows that are lent are given here, and nowhere below.
+#![tactic(auto)]
+
 ghost use Rattle.std.specs.Prelude.{◌≡◌, length};
 ghost use Rattle.columns.specs.Line.{at_front, put_length};
 ghost use Rattle.determination.specs.Determination.{storey_rows, member_rows, text, printed};

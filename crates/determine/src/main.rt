@@ -1,4 +1,6 @@
 // The program: standard input to the sheet, or to the `E` line, on standard output.
+#![tactic(auto)]
+
 ghost use Rattle.std.specs.Prelude.{◌≡◌, length};
 ghost use Rattle.determine.specs.Transfer.{answered, Over, input_of, output_of};
 
@@ -13,7 +15,7 @@ const INPUT_FAILURE: [u8; 41] = *b"determine: standard input cannot be read\n";
 const OUTPUT_FAILURE: [u8; 45] = *b"determine: standard output cannot be written\n";
 
 // What the number that a read or a write returned means: so many bytes moved, no more to move, or it failed.
-#[derive(Drop)]
+#[derive(Clone, Copy)]
 enum Answer {
     Bytes(usize),
     End,
@@ -21,21 +23,21 @@ enum Answer {
 }
 
 // So many bytes moved, and what the last call returned; 1 before any call.
-#[derive(Drop)]
+#[derive(Clone, Copy)]
 struct Transfer {
     done: usize,
     last: isize,
 }
 
 // Standard input: so many bytes stand in the buffer, or it cannot be read to its end.
-#[derive(Drop)]
+#[derive(Clone, Copy)]
 enum Input {
     Read(usize),
     Unread,
 }
 
 // Standard output: all is written, or it cannot be.
-#[derive(Drop)]
+#[derive(Clone, Copy)]
 enum Output {
     Written,
     Unwritten,

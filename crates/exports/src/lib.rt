@@ -1,4 +1,6 @@
 // Calls for programs in other languages, over numbers and slices. A call with an `out` gives refusal and line in one number and, accepted, puts its values to the front of `out`.
+#![tactic(auto)]
+
 pub mod judge_calls;
 pub mod reading_call;
 pub mod record_checks;

@@ -7,13 +7,13 @@ ghost use Rattle.format.specs.Steps.{number_of, next_of};
 use crate::spelling::{digits, goes_on, push, spells};
 use records::ZERO_FORCE;
 
-#[derive(Drop)]
+#[derive(Clone, Copy)]
 pub struct Cursor {
     pub at: usize,
 }
 
 // The number that a field holds, or its refusal, with the next place.
-#[derive(Drop)]
+#[derive(Clone, Copy)]
 pub enum Field {
     Number(u64, Cursor),
     Refused(u64, Cursor),

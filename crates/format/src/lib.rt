@@ -1,4 +1,6 @@
 // The format of a survey file: numbers in columns, and lines of fields (document 01, "The survey record").
+#![tactic(auto)]
+
 pub mod cursor;
 pub mod lines;
 pub mod spelling;

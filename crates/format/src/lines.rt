@@ -142,7 +142,7 @@ fn range_fault(kind: Kind, j: usize, v: u64, storeys: u64) -> u64
 }
 
 // The numbers of a line's fields, in order, and whether all of them are written as they must be.
-#[derive(Drop)]
+#[derive(Clone, Copy)]
 pub struct Fields {
     pub written: bool,
     pub values: [u64; FIELDS_MOST],

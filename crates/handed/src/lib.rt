@@ -1,4 +1,6 @@
 // Records handed in as numbers, for the calls for other languages: a header's seven, a storey's six, a member's fifty, N_D and N_K counted from -20,000,000. A number that is not given is outside every range.
+#![tactic(auto)]
+
 ghost use Rattle.std.specs.Prelude.{◌≡◌, ℕ, ◌<◌, ◌≤◌, get_or};
 ghost use Rattle.records.specs.Records.{fields, case_by};
 ghost use Rattle.records.specs.declared.Kind.TheVariants.{M};

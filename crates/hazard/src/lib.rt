@@ -1,4 +1,6 @@
 // The site coefficients and the spectrum (document 02, N8), in hundredths, thousandths and hundred-thousandths as docs/SPECTRUM.md has them.
+#![tactic(auto)]
+
 mod ranges;
 pub mod site;
 pub mod spectrum;

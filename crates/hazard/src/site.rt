@@ -8,14 +8,14 @@ use crate::ranges::site_fault;
 use crate::table::entry;
 
 // The map coefficients of a level of ground motion, in hundredths.
-#[derive(Drop)]
+#[derive(Clone, Copy)]
 pub struct Motion {
     pub ss: u64,
     pub s1: u64,
 }
 
 // F_S and F_1 in thousandths, S_DS and S_D1 in hundred-thousandths.
-#[derive(Drop)]
+#[derive(Clone, Copy)]
 pub struct Site {
     pub fs: u64,
     pub f1: u64,
@@ -24,7 +24,7 @@ pub struct Site {
 }
 
 // The coefficients, or the refusal by its number.
-#[derive(Drop)]
+#[derive(Clone, Copy)]
 pub enum SiteAnswer {
     Computed(Site),
     Refused(u64),

@@ -11,7 +11,7 @@ use members::limits::Fraction;
 const T_L: u64 = 6_000;
 
 // The level of ground motion that decides: S_DS and S_D1 in hundred-thousandths, the factor on their spectrum in tenths.
-#[derive(Drop)]
+#[derive(Clone, Copy)]
 pub struct Level {
     pub sds: u64,
     pub sd1: u64,
@@ -19,7 +19,7 @@ pub struct Level {
 }
 
 // The spectrum in hundred-thousandths, or the refusal by its number.
-#[derive(Drop)]
+#[derive(Clone, Copy)]
 pub enum SpectrumAnswer {
     Computed(u64),
     Refused(u64),

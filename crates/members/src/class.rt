@@ -5,7 +5,7 @@ ghost use Rattle.members.specs.Class.{code, is_wall, hoops_hold, detailed, shear
 
 use records::MemberCase;
 
-#[derive(Drop)]
+#[derive(Clone, Copy)]
 pub enum Class {
     ColumnA,
     ColumnB,

@@ -16,7 +16,7 @@ use records::{FOUR_CASES, Member, MemberCase, ZERO_FORCE};
 use validity::{known_form, member_case_fault, member_fault};
 
 // What a member is found to be in one load case.
-#[derive(Drop)]
+#[derive(Clone, Copy)]
 pub struct Finding {
     pub class: Class,
     pub m: Ratio,
@@ -34,7 +34,7 @@ pub struct Finding {
 }
 
 // In each of four load cases.
-#[derive(Drop)]
+#[derive(Clone, Copy)]
 pub struct Findings {
     pub case1: Finding,
     pub case2: Finding,
@@ -43,7 +43,7 @@ pub struct Findings {
 }
 
 // The 0.40 condition of a member's storey, by case. Those of cases that the form lacks are not looked at.
-#[derive(Drop)]
+#[derive(Clone, Copy)]
 pub struct Met {
     pub case1: bool,
     pub case2: bool,
@@ -52,14 +52,14 @@ pub struct Met {
 }
 
 // The finding in one load case, or the refusal by its number.
-#[derive(Drop)]
+#[derive(Clone, Copy)]
 pub enum CaseAnswer {
     Judged(Finding),
     Refused(u64),
 }
 
 // The finding of a member of the old form, the findings of one in four cases, or the refusal by its number.
-#[derive(Drop)]
+#[derive(Clone, Copy)]
 pub enum MemberAnswer {
     Judged(Finding),
     JudgedCases(Findings),

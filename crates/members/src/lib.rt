@@ -1,4 +1,6 @@
 // Judging a member: its ratios, its class, the limits of the class, and whether it is over them.
+#![tactic(auto)]
+
 pub mod class;
 pub mod finding;
 pub mod limits;

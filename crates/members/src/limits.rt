@@ -8,7 +8,7 @@ use crate::tables::{LimitSet, Places, Table, Two};
 use crate::units::{HoopRatio, Microradians, Ratio};
 
 // The ratios by which limits are read.
-#[derive(Drop)]
+#[derive(Clone, Copy)]
 pub struct Ratios {
     pub n: Ratio,
     pub v: Ratio,
@@ -16,14 +16,14 @@ pub struct Ratios {
 }
 
 // A row of a table: a limit at a place.
-#[derive(Drop)]
+#[derive(Clone, Copy)]
 pub struct Row {
     pub at: u64,
     pub limit: u64,
 }
 
 // An exact value.
-#[derive(Drop)]
+#[derive(Clone, Copy)]
 pub struct Fraction {
     pub num: u64,
     pub den: u64,
@@ -275,7 +275,7 @@ fn round_rotation(f: Fraction, q: u64, factor: u64) -> Microradians
 }
 
 // The two limits of a member.
-#[derive(Drop)]
+#[derive(Clone, Copy)]
 pub(crate) struct Limits {
     pub m: Ratio,
     pub rotation: Microradians,

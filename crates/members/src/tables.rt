@@ -3,7 +3,7 @@ ghost use Rattle.std.specs.Prelude.{◌≡◌};
 ghost use Rattle.members.specs.Tables.{places, moments, rotations, published, published_share};
 
 // A number at each of four rows.
-#[derive(Drop)]
+#[derive(Clone, Copy)]
 pub struct Four {
     pub r1: u64,
     pub r2: u64,
@@ -12,14 +12,14 @@ pub struct Four {
 }
 
 // A number at each of two rows.
-#[derive(Drop)]
+#[derive(Clone, Copy)]
 pub struct Two {
     pub r1: u64,
     pub r2: u64,
 }
 
 // Where the rows stand.
-#[derive(Drop)]
+#[derive(Clone, Copy)]
 pub struct Places {
     // n of the columns' rows
     pub axial: Four,
@@ -32,7 +32,7 @@ pub struct Places {
 }
 
 // The limits at the rows, of m or of the rotation.
-#[derive(Drop)]
+#[derive(Clone, Copy)]
 pub struct Table {
     // column A at the four n
     pub a: Four,
@@ -52,7 +52,7 @@ pub struct Table {
 }
 
 // A whole set.
-#[derive(Drop)]
+#[derive(Clone, Copy)]
 pub struct LimitSet {
     pub places: Places,
     pub m: Table,
@@ -203,7 +203,7 @@ const ROTATIONS: Table = Table {
 };
 
 // The allowed share of a storey: in hundredths at the first and the second axial ratio per member, which stand on the grid of `Ratio`; linear between them.
-#[derive(Drop)]
+#[derive(Clone, Copy)]
 pub struct Share {
     pub ends: Two,
     pub shares: Two,

@@ -4,15 +4,15 @@ ghost use Rattle.members.specs.Units.{ratio_up, hoop_down, ratio_steps};
 ghost use Rattle.members.specs.Sizes.{micro_down};
 
 // n, n_D, m, v and the limits of m: hundred-thousandths.
-#[derive(Drop)]
+#[derive(Clone, Copy)]
 pub struct Ratio(pub u64);
 
 // The hoop ratio ρ: millionths.
-#[derive(Drop)]
+#[derive(Clone, Copy)]
 pub struct HoopRatio(pub u64);
 
 // A rotation and its limit. Its cap is the most that the field of a rotation holds: no limit reaches it.
-#[derive(Drop)]
+#[derive(Clone, Copy)]
 pub struct Microradians(pub u64);
 
 impl Ratio {

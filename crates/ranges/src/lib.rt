@@ -1,4 +1,6 @@
 // The range of each field of a line, and a line with every field in its range.
+#![tactic(auto)]
+
 ghost use Rattle.std.specs.Prelude.{◌≡◌, ◌&&◌, ◌||◌, leb, eqb, get_or, ◌+◌, ◌≤◌};
 ghost use Rattle.records.specs.Notation.{every_below};
 ghost use Rattle.records.specs.declared.Kind.TheVariants.{M, S4, M4, D};

@@ -27,33 +27,33 @@ const UNHELD: u64 = 8;
 const MISNUMBERED: u64 = 12;
 
 // A refusal and its line; number 0 is none.
-#[derive(Drop)]
+#[derive(Clone, Copy)]
 pub struct Fault {
     pub number: u64,
     pub line: u64,
 }
 
 // A line's first refusal by its shape, its row and its fields, and the numbers that it holds where there is none.
-#[derive(Drop)]
+#[derive(Clone, Copy)]
 pub(crate) struct Line {
     pub fault: u64,
     pub values: [u64; FIELDS_MOST],
 }
 
 // A line's first refusal but 5, and what it holds where there is none.
-#[derive(Drop)]
+#[derive(Clone, Copy)]
 pub(crate) struct HeaderLine {
     pub fault: u64,
     pub header: Header,
 }
 
-#[derive(Drop)]
+#[derive(Clone, Copy)]
 pub(crate) struct StoreyLine {
     pub fault: u64,
     pub storey: Storey,
 }
 
-#[derive(Drop)]
+#[derive(Clone, Copy)]
 pub(crate) struct MemberLine {
     pub fault: u64,
     pub number: u64,
@@ -297,7 +297,7 @@ fn members_fault(s: &[u8], form: u64, i: usize, m: usize, count: usize, rows: us
 }
 
 // The first refusal after the B line, and how many members a file without one has.
-#[derive(Drop)]
+#[derive(Clone, Copy)]
 pub(crate) struct Checked {
     pub number: u64,
     pub line: u64,
@@ -351,7 +351,7 @@ pub(crate) fn storeys_fault(s: &[u8], form: u64, n: usize, srows: usize, mrows: 
 }
 
 // What reading a file comes to: the header and how many rows were filled, or the first refusal by its number, with its line.
-#[derive(Drop)]
+#[derive(Clone, Copy)]
 pub enum ReadAnswer {
     Accepted {
         header: Header,
@@ -364,7 +364,7 @@ pub enum ReadAnswer {
     },
 }
 
-#[derive(Drop)]
+#[derive(Clone, Copy)]
 pub struct Reading {
     pub answer: ReadAnswer,
 }

@@ -1,5 +1,7 @@
 // The records of a survey, shared by every layer, and what makes one good. Every field is a number, in the unit that document 01 gives it.
 
+#![tactic(auto)]
+
 pub mod first;
 pub mod numbers;
 
@@ -30,7 +32,7 @@ pub const FIELDS_MOST: usize = MEMBER_FIELDS;
 
 // The B line.
 #[repr(C)]
-#[derive(Drop)]
+#[derive(Clone, Copy)]
 pub struct Header {
     // knowledge level k, hundredths
     pub knowledge: u64,
@@ -49,7 +51,7 @@ pub struct Header {
 
 // The S line.
 #[repr(C)]
-#[derive(Drop)]
+#[derive(Clone, Copy)]
 pub struct Storey {
     pub number: u64,
     // storey shear of each load case, 0.1 kN; 0 in the cases that the form lacks
@@ -60,7 +62,7 @@ pub struct Storey {
 
 // The M line: a column or a wall. Forces are in 0.1 kN, moments in 0.1 kNm, lengths in mm.
 #[repr(C)]
-#[derive(Drop)]
+#[derive(Clone, Copy)]
 pub struct Member {
     pub number: u64,
     pub long: u64,
@@ -98,7 +100,7 @@ pub struct Member {
 
 // What one load case brings to a member: fields 19 to 26 of an M line in the old form, a D line in the form of four cases.
 #[repr(C)]
-#[derive(Drop)]
+#[derive(Clone, Copy)]
 pub struct LoadCase {
     // N_K, counted from -20,000,000
     pub nk: u64,
@@ -117,7 +119,7 @@ pub struct LoadCase {
 }
 
 // A member in one load case: what is judged. Its fields are those of the member, with the case.
-#[derive(Drop)]
+#[derive(Clone, Copy)]
 pub struct MemberCase {
     pub number: u64,
     pub long: u64,
@@ -141,7 +143,7 @@ pub struct MemberCase {
 }
 
 // The kind of a line: B; S and M of the old form; S, M and D of the form of four load cases.
-#[derive(Drop)]
+#[derive(Clone, Copy)]
 pub enum Kind {
     B,
     S,

@@ -1,5 +1,7 @@
 // Writing the report: what the call answers (document 01, "The printed sheet").
 
+#![tactic(auto)]
+
 pub mod printed;
 pub mod refusal_line;
 pub mod sheet;
@@ -16,14 +18,14 @@ pub const STOREY_CASE_LINE_SIZE: usize = 2 + 12 * 7;
 pub const BUILDING_LINE_SIZE: usize = 2 + 12 * 2;
 
 // The sheet's length, or the refusal by its number.
-#[derive(Drop)]
+#[derive(Clone, Copy)]
 pub enum ReportAnswer {
     Written(usize),
     Refused(u64),
 }
 
 // The answer of the call, in a struct of one field.
-#[derive(Drop)]
+#[derive(Clone, Copy)]
 pub struct ReportJudgment {
     pub answer: ReportAnswer,
 }

@@ -23,14 +23,14 @@ use totals::finding::finding_of;
 use totals::{StoreyFinding, Tally};
 
 // After some storeys: the next place in the bytes, and whether one of them is Risky.
-#[derive(Drop)]
+#[derive(Clone, Copy)]
 pub(crate) struct PrintedStoreys {
     pub at: usize,
     pub risky: bool,
 }
 
 // After some members of a storey: the next place in the bytes, and their totals.
-#[derive(Drop)]
+#[derive(Clone, Copy)]
 pub(crate) struct PrintedMembers {
     pub at: usize,
     pub tally: Tally,

@@ -1,4 +1,6 @@
 // The program: prints the site coefficients F_S and F_1 in thousandths, a number to a line (document 02, N8), each computed from the published columns of document 001.
+#![tactic(auto)]
+
 ghost use Rattle.std.specs.Prelude.{◌≡◌, ◌+◌, ◌-◌, ◌*◌, ◌/◌, ◌≤◌, ◌<◌, min};
 ghost use Rattle.hazard.specs.Entries.{Entry};
 ghost use Rattle.site_table.specs.Weighed.{weighed};

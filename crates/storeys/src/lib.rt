@@ -1,5 +1,7 @@
 // Judging a storey and a building: what the calls answer (document 01, "Storey and building").
 
+#![tactic(auto)]
+
 pub mod building;
 pub mod row;
 pub mod storey;
@@ -8,7 +10,7 @@ pub mod verdict;
 use totals::StoreyFinding;
 
 // In each of four load cases; Risky where it is in some case.
-#[derive(Drop)]
+#[derive(Clone, Copy)]
 pub struct StoreyFindings {
     pub risky: bool,
     pub case1: StoreyFinding,
@@ -18,7 +20,7 @@ pub struct StoreyFindings {
 }
 
 // The finding of a storey of the old form, the findings of one in four cases, or the refusal by its number.
-#[derive(Drop)]
+#[derive(Clone, Copy)]
 pub enum StoreyAnswer {
     Judged(StoreyFinding),
     JudgedCases(StoreyFindings),
@@ -26,7 +28,7 @@ pub enum StoreyAnswer {
 }
 
 // What a building is found to be.
-#[derive(Drop)]
+#[derive(Clone, Copy)]
 pub struct BuildingFinding {
     // the larger tilt is above 25,000
     pub tilted: bool,
@@ -36,19 +38,19 @@ pub struct BuildingFinding {
 }
 
 // The finding, or the refusal by its number.
-#[derive(Drop)]
+#[derive(Clone, Copy)]
 pub enum BuildingAnswer {
     Judged(BuildingFinding),
     Refused(u64),
 }
 
 // The answers of the calls, each in a struct of one field.
-#[derive(Drop)]
+#[derive(Clone, Copy)]
 pub struct StoreyJudgment {
     pub answer: StoreyAnswer,
 }
 
-#[derive(Drop)]
+#[derive(Clone, Copy)]
 pub struct BuildingJudgment {
     pub answer: BuildingAnswer,
 }

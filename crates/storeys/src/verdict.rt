@@ -12,7 +12,7 @@ use records::first::earlier;
 const TILT_ALLOWED: u64 = 25_000;
 
 // What is found of some storeys, from the first on.
-#[derive(Drop)]
+#[derive(Clone, Copy)]
 pub(crate) struct Verdict {
     // the place of the first Risky one, counted from 1; 0 where none is
     pub place: u64,

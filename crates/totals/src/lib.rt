@@ -1,6 +1,8 @@
 // The totals of a storey's members in one load case, and what the storey is found to be by them (document 01, "Storey and building"). One record at a time, by value: for whoever goes over
 // the members in a loop of its own.
 
+#![tactic(auto)]
+
 pub mod adding;
 pub mod finding;
 
@@ -16,7 +18,7 @@ const SHEAR_MOST: u64 = 9_999_999;
 const TOTAL_MOST: u64 = 2_000_000_000;
 
 // The totals over some members of a storey.
-#[derive(Drop)]
+#[derive(Clone, Copy)]
 pub struct Tally {
     // c
     pub members: u64,
@@ -31,7 +33,7 @@ pub struct Tally {
 }
 
 // What a storey is found to be in one load case.
-#[derive(Drop)]
+#[derive(Clone, Copy)]
 pub struct StoreyFinding {
     // Σ, the total of n_D
     pub axial_total: u64,

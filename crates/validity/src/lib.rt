@@ -1,4 +1,6 @@
 // What makes a record good by itself: every field in its range, and what holds between fields.
+#![tactic(auto)]
+
 ghost use Rattle.std.specs.Prelude.{◌≡◌, ◌&&◌, [], ◌∷◌, eqb, length};
 ghost use Rattle.records.specs.Notation.{pick, every_below};
 ghost use Rattle.records.specs.declared.Kind.TheVariants.{S, M, S4, D};

@@ -1,0 +1,18 @@
+use Prim.Native.Nat.{◌-◌}
+use mathlib.Core.Path.{refl}
+use native.Mathlib.Omega.{arith}
+use lib.ListN.{get_or, length-set}
+use Rattle.columns.proofs.Stamps.{text-next}
+use Rattle.columns.proofs.line.put_text.Goals as goal
+
+pub loop-i-preserved : goal.loop-i-preserved
+loop-i-preserved c =
+    let l = c.loop-i in
+    let a = c.args in (
+      omega arith,
+      simp length-set l.invariant.1,
+      text-next l.out a.out.now a.text.now a.at l.i (get_or a.text.now l.i 0) l.invariant.2 c.loop-i-test.true refl,
+    )
+
+pub returns-clause-out_after : goal.returns-clause-out_after
+returns-clause-out_after c = ?
