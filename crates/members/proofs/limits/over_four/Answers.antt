@@ -1,0 +1,32 @@
+use native.Mathlib.Omega.{arith}
+use mathlib.Core.Path.{◌∙◌, sym}
+use Rattle.members.proofs.Interpolation.{up_to, inside, past}
+use Rattle.members.proofs.limits.over_four.Goals as goal
+
+pub returns-then-x-a : goal.returns-then-x-a
+returns-then-x-a c =
+    let s = c.args in
+    (sym (up_to s.a s.b _ s.x c.if-x-a.true), omega arith)
+
+pub returns-then-x-b : goal.returns-then-x-b
+returns-then-x-b c =
+    let s = c.args in
+    (c.segment.ensures.0 ∙ sym (inside s.a s.b _ s.x (omega arith) (omega arith)), c.segment.ensures.1)
+
+pub returns-then-x-c : goal.returns-then-x-c
+returns-then-x-c c =
+    let s = c.args in (
+      c.segment-then-x-c.ensures.0
+          ∙ sym
+          (past s.a s.b _ s.x (omega arith) (omega arith) ∙ inside s.b s.c _ s.x (omega arith) (omega arith)),
+      c.segment-then-x-c.ensures.1,
+    )
+
+pub returns : goal.returns
+returns c =
+    let s = c.args in (
+      c.over_two.ensures.0
+          ∙ sym
+          (past s.a s.b _ s.x (omega arith) (omega arith) ∙ past s.b s.c _ s.x (omega arith) (omega arith)),
+      c.over_two.ensures.1,
+    )
