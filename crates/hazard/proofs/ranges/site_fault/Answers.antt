@@ -1,0 +1,6 @@
+use Rattle.hazard.specs.Refusals.{site_fault}
+use Rattle.hazard.proofs.ranges.site_fault.Goals as goal
+
+pub returns : goal.returns
+unfolding site_fault
+returns c = rw (← c.in_map.ensures, ← c.from_one.ensures) c.call_fault.ensures
