@@ -1,8 +1,8 @@
-use Prim.Native.Nat.{◌-◌}
+use Prim.Native.Nat.{◌+◌, ◌-◌}
 use mathlib.Core.Path.{refl}
 use native.Mathlib.Omega.{arith}
 use lib.ListN.{get_or, length-set}
-use Rattle.columns.proofs.Stamps.{text-next}
+use Rattle.columns.proofs.Stamps.{text-next, text-end}
 use Rattle.columns.proofs.line.put_text.Goals as goal
 
 pub loop-i-preserved : goal.loop-i-preserved
@@ -15,4 +15,6 @@ loop-i-preserved c =
     )
 
 pub returns-clause-out_after : goal.returns-clause-out_after
-returns-clause-out_after c = ?
+returns-clause-out_after c =
+    let l = c.loop-i in
+    let a = c.args in text-end l.out a.out.now a.text.now a.at l.i (a.at + l.i) l.invariant.2 (omega arith)
