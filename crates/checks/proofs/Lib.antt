@@ -1,4 +1,3 @@
 pub mod Refusals
 pub mod RowLaws
 pub mod RowLoops
-pub mod Says

@@ -34,9 +34,6 @@ module _ (rows : List Member) (v n : ℕ) where
   pub seen_here : (e r : ℕ) → e < n → r ≡ (member_in rows e).number → eqb r v ≡ true → ◌≡◌ {A = ℕ} 5 (pick (any_below same n) 5 0)
   seen_here e r h p q = rw (any-holds same n e h (rw p at q))
 
-  pub unseen-all : (e : ℕ) → any_below same e ≡ false → e ≤ n → n ≤ e → ◌≡◌ {A = ℕ} 0 (pick (any_below same n) 5 0)
-  unseen-all e h p q = let z : e ≡ n = omega arith in rw (rw z at h)
-
 -- ---- the first refusal of the members
 module _ (form : ℕ) (rows : List Member) where
   pub clear_none : first 0 (λ r. r) (row_fault form rows) 0 ≡ 0
@@ -110,9 +107,6 @@ module _ (ss : List Storey) (n v : ℕ) where
 
   pub repeat-found : (e x : ℕ) → x ≡ (storey_in ss e).number → e < n → eqb x v ≡ true → ◌≡◌ {A = ℕ} 5 (pick (any_below has n) 5 0)
   repeat-found e x g h f = let k : has e ≡ true = rw (← g) f in rw (any-holds has n e h k)
-
-  pub repeat-all : (e : ℕ) → any_below has e ≡ false → e ≤ n → n ≤ e → ◌≡◌ {A = ℕ} 0 (pick (any_below has n) 5 0)
-  repeat-all e a h g = let q : e ≡ n = omega arith in let k : any_below has n ≡ false = rw (← q) a in rw k
 
 -- ---- the members of a storey among the rows
 module _ (ss : List Storey) (ms : List Member) (i before c : ℕ) (e : before ≡ members_before ss i) (g : c ≡ (storey_in ss i).count) where
