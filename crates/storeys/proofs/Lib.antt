@@ -2,8 +2,6 @@ pub mod Accepted
 pub mod Rows
 pub mod Loops
 pub mod Called
-pub mod Says
-pub mod Structs
 pub mod Verdicts
 pub mod BuildingRows
 pub mod BuildingAnswers
