@@ -128,9 +128,6 @@ module _ (form : ℕ) (ss : List Storey) (ms : List Member) where
   pub rows_none : refusal 0 ≡ 0
   rows_none = first-none 0 (λ n. n) (storey_rows_fault form ss ms)
 
-  pub rows_all : (i : ℕ) → refusal i ≡ 0 → i ≤ length ss → length ss ≤ i → 0 ≡ refusal (length ss)
-  rows_all i e h g = let q : i ≡ length ss = omega arith in rw (← q) (sym e)
-
   stops : (i r : ℕ) → refusal i ≡ 0 → i < length ss → r ≡ storey_rows_fault form ss ms i → (r ≡ 0 → ⊥) → r ≡ refusal (length ss)
   stops i r e h g ne =
       let k = first_next 0 (λ n. n) (storey_rows_fault form ss ms) i e in

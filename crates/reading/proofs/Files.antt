@@ -1,5 +1,5 @@
 -- The loop over the S lines: what holds after i of them, and one turn.
-use Prim.Native.Nat.{ℕ, ◌+◌, ◌*◌, ◌-◌, ◌≤◌, ◌<◌}
+use Prim.Native.Nat.{ℕ, ◌+◌, ◌*◌, ◌≤◌, ◌<◌}
 use native.Mathlib.Omega.{arith}
 use native.Mathlib.Nat.{not-suc-le-zero}
 use native.Mathlib.Numerals.{add-one}
@@ -10,11 +10,11 @@ use lib.Dec.{ltb, eqb}
 use lib.ListN.{length, get_or, set, length-set}
 use lib.Seq.{get_or-set_same, get_or-set_other}
 use borrow.Author.Count.{below_more}
-use borrow.Author.Tests.{eq-eqb, ne_eqb, lt-ltb, le-ltb}
+use borrow.Author.Tests.{ne_eqb}
 use Rattle.records.specs.Notation.{pick, any_below}
 use Rattle.records.specs.Records.{storey_kind, repeated}
 use Rattle.format.specs.Lines.{fields_fault}
-use Rattle.reading.specs.Survey.{line_start, line_number, members_before, storey, shape, unheld, storey_line_fault, first_fault, members_fault, storeys_fault, trailing, lines_fault}
+use Rattle.reading.specs.Survey.{line_start, line_number, members_before, storey, shape, unheld, storey_line_fault, first_fault, members_fault, storeys_fault, lines_fault}
 use Rattle.reading.specs.Checks.{line_first, StoreyLineOf, MembersDue, CheckedOf}
 use Rattle.records.specs.declared.Storey.{Storey}
 use Rattle.reading.specs.declared.survey.Fault.{Fault}
@@ -118,24 +118,3 @@ module _ (form : ℕ) (s : List ℕ) (n srows mrows : ℕ) where
                 (get_or-set_same numbers i l.storey.number 0 (omega (arith, u.size, u.storeys)) ∙ ap (λ (b : Storey). b.number) (storey-is good));
             clear = goes_on lines i u.clear (ap (λ (r : Fault). r.number) (later-is g e) ∙ y);
           }
-
-  module _ (numbers : List ℕ) (i m : ℕ) (u : Begun form s n srows mrows numbers i m) (h : n ≤ i) (at : ℕ) (at-is : at ≡ line_start form n m) where
-    all : i ≡ n
-    all = omega (arith, u.turn)
-
-    before-all : m ≡ members_before form s n
-    before-all = rw (← all) u.before
-
-    place-all : at ≡ line_start form n (members_before form s n)
-    place-all = at-is ∙ rw before-all
-
-    ends : (r : Fault) → r ≡ trailing form s n → r ≡ lines_fault form s srows mrows n
-    ends r e = let k = rw all at u.clear in rw (eq-eqb _ _ k) e
-
-    pub more_bytes : (w : ℕ) → at < length s → w ≡ line_number form n m → CheckedOf form s n srows mrows (record { number = 6; line = w; members = m })
-    more_bytes w l q =
-        let k : w ≡ line_number form n (members_before form s n) = q ∙ rw before-all in
-        record { fault = ends _ (rw (← place-all, ← k, lt-ltb _ _ l)); members = λ z. before-all }
-
-    pub no_more : length s ≤ at → CheckedOf form s n srows mrows (record { number = 0; line = 0; members = m })
-    no_more l = record { fault = ends _ (rw (← place-all, le-ltb _ _ l)); members = λ z. before-all }

@@ -1,5 +1,5 @@
 -- The loops that fill the rows of an accepted file: what a turn needs, and what it leaves.
-use Prim.Native.Nat.{ℕ, zero, suc, ◌+◌, ◌*◌, ◌-◌, ◌≤◌, ◌<◌}
+use Prim.Native.Nat.{ℕ, zero, suc, ◌+◌, ◌*◌, ◌≤◌, ◌<◌}
 use native.Mathlib.Omega.{arith}
 use native.Mathlib.Nat.{le_refl, eq-or-lt_of_le, le_of_suc-le-suc}
 use native.Mathlib.Numerals.{add-one}
@@ -75,6 +75,3 @@ module _ (form : ℕ) (s : List ℕ) (n : ℕ) (f : Fits form s n) where
 pub filled_none : (form : ℕ) (s : List ℕ) (rows : List Member) → rows ≡ filled_members form s 0 rows
 unfolding filled_members
 filled_none form s rows = refl
-
-pub filled-all : (form : ℕ) (s : List ℕ) (i n : ℕ) (rows now : List Member) → now ≡ filled_members form s i rows → i ≤ n → n ≤ i → now ≡ filled_members form s n rows
-filled-all form s i n rows now e h g = let q : i ≡ n = omega arith in rw (← q) e

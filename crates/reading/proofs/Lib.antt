@@ -8,7 +8,5 @@ pub mod Numbers
 pub mod Placed
 pub mod Filling
 pub mod Accepted
-pub mod Says
-pub mod Structs
 pub mod Numbered
 pub mod Passed

@@ -49,11 +49,6 @@ module _ (kind : Kind) (s : List ℕ) (at : ℕ) where
       record { good = λ z. all-clear kind s at f.values h.values r (sym h.written ∙ w); holds = λ z. h.values }
 
   -- ---- one check after another
-  pub unshaped : (held : Bool) → shaped kind (drop at s) ≡ false → 1 ≡ line_first kind s at held
-  unshaped held e = rw e
-
-  pub no_row : (held : Bool) → shaped kind (drop at s) ≡ true → held ≡ false → 8 ≡ line_first kind s at held
-  no_row held e q = rw (e, q)
 
   pub by-fields : (held : Bool) (y : ℕ) → shaped kind (drop at s) ≡ true → held ≡ true → y ≡ pick (holds_fields kind s at) (fields_fault kind s at) 1 → y ≡ line_first kind s at held
   by-fields held y e q d =

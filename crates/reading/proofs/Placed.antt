@@ -1,6 +1,5 @@
 -- Laws of the rows that a loop fills, one after the other.
-use Prim.Native.Nat.{ℕ, ◌+◌, ◌≤◌}
-use native.Mathlib.Omega.{arith}
+use Prim.Native.Nat.{ℕ, ◌+◌}
 use native.Mathlib.Numerals.{add-one}
 use mathlib.Core.List.{List}
 use mathlib.Core.Path.{◌≡◌, refl}
@@ -15,6 +14,3 @@ module _ {A : Type 0} (f : ℕ → A) (k : ℕ) (rows : List A) where
   pub placed-step : (n i : ℕ) (now : List A) (r : A) → now ≡ placed f k n rows → r ≡ f n → i ≡ k + n → set now i r ≡ placed f k (n + 1) rows
   unfolding placed
   placed-step n i now r e g h = rw (add-one, e, g, h)
-
-  pub placed-all : (n m : ℕ) (now : List A) → now ≡ placed f k n rows → n ≤ m → m ≤ n → now ≡ placed f k m rows
-  placed-all n m now e h g = let q : n ≡ m = omega arith in rw (← q) e

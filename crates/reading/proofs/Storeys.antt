@@ -1,5 +1,5 @@
 -- The loop over a storey's M lines with their D lines: what holds after j of them, and one turn.
-use Prim.Native.Nat.{ℕ, zero, suc, ◌+◌, ◌-◌, ◌≤◌, ◌<◌}
+use Prim.Native.Nat.{ℕ, zero, suc, ◌+◌, ◌≤◌, ◌<◌}
 use native.Mathlib.Omega.{arith}
 use native.Mathlib.Nat.{not-suc-le-zero}
 use mathlib.Core.Bool.{Bool}
@@ -39,10 +39,6 @@ module _ (form : ℕ) (s : List ℕ) (rows i m count : ℕ) where
 
   pub turn-first : (numbers : List ℕ) → length numbers ≡ 200 → MembersDue form s i m count → Turn form s rows i m count numbers 0
   turn-first numbers z d = record { due = d; turn = omega arith; size = z; held = λ e l. absurd (not-suc-le-zero l); clear = begins lines }
-
-  pub turn_small : (numbers : List ℕ) (j : ℕ) → Turn form s rows i m count numbers j → (i + 1 ≤ 11) × (m + j ≤ 2200) × (j ≤ 200)
-  turn_small numbers j u =
-      (omega (arith, u.due.storeys), omega (arith, u.due.most, u.due.count_most, u.turn), omega (arith, u.due.count_most, u.turn))
 
   module _ (numbers : List ℕ) (j : ℕ) (u : Turn form s rows i m count numbers j) (h : j < count) (at line : ℕ) (l : MemberLine) (at-is : at ≡ line_start form (i + 1) (m + j)) (line-is : line ≡ line_number form (i + 1) (m + j)) (o : MemberLineOf form s at (ltb (m + j) rows) l) (x f : ℕ)
       (xi : x ≡ pick (any_below (λ (e : ℕ). eqb (get_or numbers e 0) l.number) j) 5 0) (fi : f ≡ pick (eqb l.fault 0) x l.fault) where
