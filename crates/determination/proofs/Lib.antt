@@ -1,4 +1,3 @@
-pub mod Says
 pub mod Outcomes
 pub mod Room
 pub mod Accepted
