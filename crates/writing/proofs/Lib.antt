@@ -1,8 +1,6 @@
-pub mod Structs
 pub mod Putting
 pub mod Storeys
 pub mod Called
-pub mod Says
 pub mod Resent
 pub mod Reread
 pub mod RoundTrips
