@@ -1,7 +1,8 @@
 #!/usr/bin/env python3
 """Imports the library's operators from the library itself: `rt ci` refuses a `use` of one (◌+◌, ◌≡◌ ..) from a module of the repository, as Notation.
 Run at the top of the repository, with names of crates or for all of them. It moves each such name of specs/, proofs/ and src/ to the file's line
-`use Rattle.std.specs.Prelude.{..}`, or writes that line. It lists the must-fail edits whose texts then stand no longer in their file once."""
+`use Rattle.std.specs.Prelude.{..}`, or writes that line. It takes them out of the texts of must-fail edits that then stand no longer in their file
+once, and lists those that still do not."""
 import re
 import sys
 from pathlib import Path
@@ -65,6 +66,21 @@ def broken(edit):
     return False
 
 
+def mended(text, names_of_library):
+    """The text of an edit without the operators that both an old import and the new one in its place name."""
+    lines = text.split("\n")
+    for n in range(len(lines) - 1):
+        old, new = lines[n], lines[n + 1]
+        if not (old.startswith("old: ") and new.startswith("new: ") and ".{" in old and ".{" in new):
+            continue
+        names = [{it for it in re.findall(r"[^\s,{}]+", line) if it in names_of_library} for line in (old, new)]
+        if names[1] <= names[0]:
+            for name in names[0]:
+                old, new = (re.sub(f"{re.escape(name)}(, |,$)|, {re.escape(name)}(?=}})", "", line) for line in (old, new))
+            lines[n], lines[n + 1] = old.rstrip(), new.rstrip()
+    return "\n".join(lines)
+
+
 def main():
     crates = [Path("crates") / it for it in sys.argv[1:]] or sorted(it for it in Path("crates").iterdir() if it.is_dir())
     own = {it.name for it in Path("crates").iterdir() if it.is_dir()}
@@ -82,7 +98,8 @@ def main():
                     changed += 1
         for edit in edits:
             if edit in stood and broken(edit):
-                print(f"its text is moved: {edit}")
+                edit.write_text(mended(edit.read_text(), names_of_library))
+                print(f"{'its text is moved' if broken(edit) else 'mended'}: {edit}")
     print(f"{changed} files changed")
 
 
