@@ -1,7 +1,8 @@
 // The program: standard input to the sheet, or to the `E` line, on standard output.
 #![tactic(auto)]
 
-ghost use Rattle.std.specs.Prelude.{◌≡◌, length};
+ghost use Rattle.std.specs.Prelude.{◌≡◌, length, take};
+ghost use Rattle.std.specs.Io.KnownBytes.{Appends, Consumes, IsAtEnd};
 ghost use Rattle.determine.specs.Transfer.{answered, Over, input_of, output_of};
 
 use determination::determine;
@@ -56,7 +57,9 @@ fn answer_of(returned: io::Result<usize>) -> Answer
 
 // Reads the input to its end, until a read fails, or until the buffer is full.
 fn read_all<R: Read>(input: &mut R, buffer: &mut [u8]) -> Transfer
-    ensures { Over result (length buffer.old) }
+    ensures over { Over result (length buffer.old) }
+    ensures given { Consumes (R.remaining input.old) (R.remaining input.new) (take result.done buffer.new) }
+    ensures end { answered result.last ≡ Answer.End → IsAtEnd (R.remaining input.new) }
 {
     let mut done = 0;
     let mut last: io::Result<usize> = Ok(1);
@@ -76,7 +79,8 @@ fn read_all<R: Read>(input: &mut R, buffer: &mut [u8]) -> Transfer
 
 // Writes all bytes, or as many as go before a write fails.
 fn write_all<W: Write>(output: &mut W, bytes: &[u8]) -> Transfer
-    ensures { Over result (length bytes.now) }
+    ensures over { Over result (length bytes.now) }
+    ensures written { Appends (W.contents output.old) (W.contents output.new) (take result.done bytes.now) }
 {
     let mut done = 0;
     let mut last: io::Result<usize> = Ok(1);
