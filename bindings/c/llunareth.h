@@ -1,5 +1,5 @@
 /*
- * The calls of Llunareth for programs in C (C99 and later) and C++. Link with target/staticlib/libexports.a, which `rt staticlib exports`
+ * The calls of Llunareth for programs in C (C99 and later) and C++. Link with crates/exports/out/libexports.a, which `rt lib` in crates/exports
  * makes. docs/CALLS.md has the calls and their refusals; docs/FORMAT.md has the survey file and the fields with their units and ranges;
  * docs/SPECTRUM.md has the codes and units of sites and spectra.
  *

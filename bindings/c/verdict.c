@@ -10,7 +10,7 @@
  * A file is refused where `determine` refuses it. Exit status: 0 for a verdict, 1 for a refusal, 2 where the file cannot be read, the
  * line cannot be written, or the library has another form of the calls than the header.
  *
- * gcc -std=c99 -I bindings/c bindings/c/verdict.c target/staticlib/libexports.a -o verdict
+ * gcc -std=c99 -I bindings/c bindings/c/verdict.c crates/exports/out/libexports.a -o verdict
  */
 #include <inttypes.h>
 #include <stdio.h>

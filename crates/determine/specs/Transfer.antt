@@ -1,5 +1,6 @@
--- What reads and writes come to, by the numbers that they return.
-use Rattle.std.specs.Prelude.{ℕ, zero, suc, ◌≤◌, ◌≡◌, ℤ, pos, negsuc}
+-- What reads and writes come to, by what they return.
+use Rattle.std.specs.Prelude.{ℕ, zero, suc, ◌≤◌, ◌≡◌, Result, Ok, Err}
+use Rattle.std.specs.declared.io.Error.{Error}
 use Rattle.determine.specs.declared.Answer.{Answer}
 use Rattle.determine.specs.declared.Answer.TheVariants.{Bytes, End, Failure}
 use Rattle.determine.specs.declared.Input.{Input}
@@ -8,11 +9,11 @@ use Rattle.determine.specs.declared.Output.{Output}
 use Rattle.determine.specs.declared.Output.TheVariants.{Written, Unwritten}
 use Rattle.determine.specs.declared.Transfer.{Transfer}
 
--- what the number that one read or write returns means: so many bytes; 0, the end; a negative one, a failure
-abbrev pub answered : ℤ → Answer
-answered (pos zero) = End
-answered (pos (suc n)) = Bytes (suc n)
-answered (negsuc n) = Failure
+-- what one read or write returns means: so many bytes; no bytes, the end; an error, a failure
+abbrev pub answered : Result ℕ Error → Answer
+answered (Ok zero) = End
+answered (Ok (suc n)) = Bytes (suc n)
+answered (Err e) = Failure
 
 -- the answer of a call that moved bytes
 abbrev pub Moving : Answer → Type 0

@@ -1,5 +1,6 @@
 -- The number that the generator computes from the columns of a table: those at and after the place, each weighed by the distance to the other.
-use Rattle.records.specs.Notation.{ℕ, ◌+◌, ◌-◌, ◌*◌, ◌/◌, min, List, [], ◌∷◌, get_or}
+use Rattle.std.specs.Prelude.{◌+◌, ◌-◌, ◌*◌, ◌/◌}
+use Rattle.records.specs.Notation.{ℕ, min, List, get_or}
 
 unfoldable pub weighed : List ℕ → ℕ → ℕ → ℕ → ℕ
 weighed table gap row past =

@@ -5,8 +5,6 @@ ghost use Rattle.std.specs.Prelude.{◌≡◌, ◌+◌, ◌-◌, ◌*◌, ◌/�
 ghost use Rattle.hazard.specs.Entries.{Entry};
 ghost use Rattle.site_table.specs.Weighed.{weighed};
 
-use libc::STDOUT_FILENO;
-
 // Table 2.3: F_S of ZA to ZE in tenths, at S_S 0.25, 0.50, 0.75, 1.00, 1.25 and 1.50.
 const SHORT_PERIOD: [u8; 30] = [
     // ZA
@@ -107,18 +105,15 @@ fn coefficient(k: usize) -> u64
 }
 
 // A number to a line; whether it was written.
-fn print_line(n: u64) -> bool {
-    if io::print_decimal(STDOUT_FILENO, n) {
-        return io::write_all(STDOUT_FILENO, b"\n");
-    }
-    false
+fn print_line(rt: &impl Print, n: u64) -> bool {
+    println!(rt; "{n}").is_ok()
 }
 
-fn main() {
+fn main(rt: HostRuntime) {
     let mut k = 0;
     while k < NUMBERS {
         let n = coefficient(k);
-        if !print_line(n) {
+        if !print_line(&rt, n) {
             return;
         }
         k += 1;

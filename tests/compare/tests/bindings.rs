@@ -41,7 +41,7 @@ fn said(output: &Output) -> String {
 
 /// Builds a program of one file over the header and the proved library.
 fn build(compiler: &mut Command, source: &str, program: &str) -> PathBuf {
-    let (source, library) = (root().join(source), root().join("target/staticlib/libexports.a"));
+    let (source, library) = (root().join(source), root().join("crates/exports/out/libexports.a"));
     let output = compiler.args([source, library]).arg("-o").arg(own(program)).output().expect("the compiler starts");
     assert!(output.status.success(), "{}", said(&output));
     own(program)

@@ -163,8 +163,8 @@ fn every_length_and_byte_of_a_small_file() {
 // ---- the program ----
 
 fn program() -> PathBuf {
-    let path = Path::new(env!("CARGO_MANIFEST_DIR")).join("../../target/bin/determine");
-    assert!(path.is_file(), "target/bin/determine is absent: `rt check determine` makes it");
+    let path = Path::new(env!("CARGO_MANIFEST_DIR")).join("../../crates/determine/out/determine");
+    assert!(path.is_file(), "crates/determine/out/determine is absent: `rt run` in crates/determine makes it");
     path
 }
 
