@@ -1,5 +1,6 @@
 -- The records of a survey over rows of any length (document 01, "Refusals as returned": "Calls on records check 1 over all, then records in survey order: 3, 4, 5, 7").
-use Rattle.records.specs.Notation.{ℕ, zero, suc, ◌+◌, List, [], ◌∷◌, eqb, length, get_or, take, drop, pick, in_order, first, total}
+use Rattle.std.specs.Prelude.{◌+◌, ◌∷◌}
+use Rattle.records.specs.Notation.{ℕ, zero, suc, List, [], eqb, length, get_or, take, drop, pick, in_order, first, total}
 pub use Rattle.records.specs.{declared.Header.Header, declared.Storey.Storey, declared.Member.Member, Records.Survey}
 use Rattle.records.specs.{Blank.no_storey, Blank.no_member, Records.header_fault, Records.storey_fault, Records.member_fault, Records.repeated}
 

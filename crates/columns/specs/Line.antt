@@ -1,6 +1,7 @@
 -- A line of the printed sheet (document 01, "The printed sheet": "Tag, then fields of 12 columns written likewise"), and a text put from the front of some bytes. A number
 -- wider than its field shows its last 12 digits.
-use Rattle.records.specs.Notation.{ℕ, ◌+◌, ◌*◌, List, [], ◌∷◌, ◌++◌, leb, length, drop, pick}
+use Rattle.std.specs.Prelude.{◌+◌, ◌*◌, ◌∷◌, ◌++◌}
+use Rattle.records.specs.Notation.{ℕ, List, [], leb, length, drop, pick}
 use Rattle.format.specs.Spelling.{spelled}
 
 -- numbers in fields of 12 columns, one after another

@@ -1,5 +1,6 @@
 -- Demand 3 of the mission: a survey that is nowhere better never clears a member, a storey or a building. Its words, then the claim.
-use Rattle.records.specs.Notation.{ℕ, ◌≤◌, ◌<◌, Bool, true, false, List, ◌≡◌, eqb, length, pick, listed}
+use Rattle.std.specs.Prelude.{◌≤◌, ◌<◌, ◌≡◌}
+use Rattle.records.specs.Notation.{ℕ, Bool, true, false, List, eqb, length, pick, listed}
 use Rattle.checks.specs.Rows.{Storey, Member, storey_in, members_of}
 use Rattle.records.specs.{declared.MemberCase.MemberCase, Records.case_count, Records.shear_of, Records.in_case}
 pub use Rattle.records.specs.Records.{Survey}

@@ -1,6 +1,7 @@
 -- The lines of a survey file (document 01, "The survey record"): what a line is, what its fields hold, and its first refusal by itself.
 -- A line is given by the file s and the place `at` where it begins.
-use Rattle.records.specs.Notation.{ℕ, suc, ◌+◌, ◌*◌, ◌<◌, Bool, true, false, ◌&&◌, ◌||◌, List, [], ◌∷◌, Option, some, none, Option·getD, ◌≡◌, leb, ltb, eqb, length, get_or, take, drop, pick, every_below, first}
+use Rattle.std.specs.Prelude.{◌+◌, ◌*◌, ◌<◌, ◌&&◌, ◌||◌, ◌∷◌, ◌≡◌}
+use Rattle.records.specs.Notation.{ℕ, suc, Bool, true, false, List, [], Option, some, none, Option·getD, leb, ltb, eqb, length, get_or, take, drop, pick, every_below, first}
 use Rattle.records.specs.declared.{Header.Header, Storey.Storey, LoadCase.LoadCase, Member.Member, Kind.Kind, Kind.TheVariants.B, Kind.TheVariants.S, Kind.TheVariants.M, Kind.TheVariants.S4, Kind.TheVariants.M4, Kind.TheVariants.D}
 use Rattle.records.specs.Records.{Allowed, allows, never, ranges, fields, in_cases, storey_kind, member_kind, header_by, storey_by, case_by, old_cases, member_by}
 use Rattle.format.specs.Spelling.{field_of}

@@ -1,6 +1,7 @@
 -- The spelling of a number in columns (document 01, "The survey record": right-justified, blanks to its left, no leading zero).
 -- A byte is its number: 32 is the blank, 45 the minus, 48 to 57 the digits, 10 the LF.
-use Rattle.records.specs.Notation.{ℕ, zero, suc, ◌+◌, ◌-◌, ◌*◌, ◌/◌, ◌%◌, Bool, true, false, ◌&&◌, List, [], ◌∷◌, Option, some, none, leb, ltb, eqb, get_or, pick}
+use Rattle.std.specs.Prelude.{◌+◌, ◌-◌, ◌*◌, ◌/◌, ◌%◌, ◌&&◌, ◌∷◌}
+use Rattle.records.specs.Notation.{ℕ, zero, suc, Bool, true, false, List, [], Option, some, none, leb, ltb, eqb, get_or, pick}
 use Rattle.records.specs.Records.{zero_force}
 
 -- column j of n, counted from the right: the last holds the units; a number below ten has its sign directly before it and blanks

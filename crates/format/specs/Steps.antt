@@ -1,5 +1,6 @@
 -- What the steps of reading a line's fields come to: each case of a cursor's answer, and the fields of a line that the bytes hold.
-use Rattle.records.specs.Notation.{ℕ, ◌+◌, ◌-◌, ◌≤◌, ◌<◌, Bool, true, false, not, ◌&&◌, ◌||◌, List, Option, some, none, ◌≡◌, leb, ltb, eqb, get_or, pick, every_below}
+use Rattle.std.specs.Prelude.{◌+◌, ◌-◌, ◌≤◌, ◌<◌, ◌&&◌, ◌||◌, ◌≡◌}
+use Rattle.records.specs.Notation.{ℕ, Bool, true, false, not, List, Option, some, none, leb, ltb, eqb, get_or, pick, every_below}
 use Rattle.records.specs.declared.Kind.{Kind}
 use Rattle.records.specs.Records.{Allowed, allows, zero_force, fields}
 use Rattle.format.specs.Lines.{field_at, is_written, value_at}

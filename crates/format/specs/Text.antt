@@ -1,5 +1,6 @@
 -- A line as it is written (document 01, "The survey record"): the columns of a stored number, and the line of some numbers.
-use Rattle.records.specs.Notation.{ℕ, zero, suc, ◌+◌, ◌-◌, Bool, true, false, List, [], ◌∷◌, ◌++◌, leb, pick}
+use Rattle.std.specs.Prelude.{◌+◌, ◌-◌, ◌∷◌, ◌++◌}
+use Rattle.records.specs.Notation.{ℕ, zero, suc, Bool, true, false, List, [], leb, pick}
 use Rattle.records.specs.declared.{Member.Member, Kind.Kind, Kind.TheVariants.D}
 use Rattle.records.specs.Records.{zero_force, in_cases, member_kind, member_values, case_values, member_case_values, case_of, in_case}
 use Rattle.format.specs.Spelling.{spelled}

@@ -1,5 +1,6 @@
 -- The numbers of the table: number k is the linear value between the published columns, and exactly so.
-use Rattle.records.specs.Notation.{ℕ, ◌*◌, ◌<◌, ◌≡◌}
+use Rattle.std.specs.Prelude.{◌*◌, ◌<◌, ◌≡◌}
+use Rattle.records.specs.Notation.{ℕ}
 use Rattle.hazard.specs.Tables.{Published}
 use Rattle.hazard.specs.Site.{exactly, factor, entry_exact, entry_of}
 

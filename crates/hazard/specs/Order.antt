@@ -1,5 +1,6 @@
 -- How the answers go with the period and with the map coefficients: claims, proved in proofs/Order.antt.
-use Rattle.records.specs.Notation.{ℕ, ◌*◌, ◌≤◌, [], ◌∷◌, ◌≡◌}
+use Rattle.std.specs.Prelude.{◌*◌, ◌≤◌, ◌∷◌, ◌≡◌}
+use Rattle.records.specs.Notation.{ℕ, []}
 use Rattle.members.specs.Finding.{found}
 use Rattle.hazard.specs.Site.{Motion, site_of, site_returned}
 use Rattle.hazard.specs.Spectrum.{Level, level_of, spectrum_returned}

@@ -1,6 +1,7 @@
 -- What is refused (document 02, N8): "Refused: 14, a map coefficient outside 0.01 to 9.99 or a period above 99,999 milliseconds, before anything else; a site class or use that docs don't
 -- list is 3, after it".
-use Rattle.records.specs.Notation.{ℕ, Bool, ◌&&◌, [], ◌∷◌, leb, pick, in_order}
+use Rattle.std.specs.Prelude.{◌&&◌, ◌∷◌}
+use Rattle.records.specs.Notation.{ℕ, Bool, [], leb, pick, in_order}
 use Rattle.hazard.specs.declared.site.Motion.{Motion}
 
 -- "outside 0.01 to 9.99", in hundredths

@@ -1,5 +1,6 @@
 -- The coefficients of a site (document 001, 2.7 and 3.8; document 02, N8).
-use Rattle.records.specs.Notation.{ℕ, ◌+◌, ◌-◌, ◌*◌, ◌/◌, ◌%◌, [], ◌∷◌, get_or, ltb, eqb, pick}
+use Rattle.std.specs.Prelude.{◌+◌, ◌-◌, ◌*◌, ◌/◌, ◌%◌, ◌∷◌}
+use Rattle.records.specs.Notation.{ℕ, [], get_or, ltb, eqb, pick}
 use Rattle.members.specs.Limits.{row, interp}
 use Rattle.members.specs.declared.limits.Fraction.{Fraction}
 use Rattle.hazard.specs.Tables.{Six, six, Published, short_period, one_second}

@@ -1,5 +1,6 @@
 -- The sizes that the code computes with, so that no product wraps.
-use Rattle.records.specs.Notation.{ℕ, ◌≤◌}
+use Rattle.std.specs.Prelude.{◌≤◌}
+use Rattle.records.specs.Notation.{ℕ}
 use Rattle.members.specs.declared.limits.Fraction.{Fraction}
 use Rattle.hazard.specs.Site.{Motion, Site}
 use Rattle.hazard.specs.Spectrum.{Level}

@@ -1,5 +1,6 @@
 -- The spectrum (document 001, 2.8, 2.9 and table 2.1; document 02, N8), an exact fraction of hundred-thousandths until the one rounding. Periods are in milliseconds.
-use Rattle.records.specs.Notation.{ℕ, ◌+◌, ◌*◌, Bool, [], ◌∷◌, leb, ltb, eqb, pick}
+use Rattle.std.specs.Prelude.{◌+◌, ◌*◌, ◌∷◌}
+use Rattle.records.specs.Notation.{ℕ, Bool, [], leb, ltb, eqb, pick}
 use Rattle.members.specs.Units.{ceiling}
 use Rattle.members.specs.declared.limits.Fraction.{Fraction}
 use Rattle.members.specs.Finding.{Returned, found, refused}

@@ -1,5 +1,6 @@
 -- Tables 2.3 and 2.4 of document 001 as they are printed: at six columns, S_S or S_1 in hundredths, the coefficients of each site class in tenths.
-use Rattle.records.specs.Notation.{ℕ, List, [], ◌∷◌}
+use Rattle.std.specs.Prelude.{◌∷◌}
+use Rattle.records.specs.Notation.{ℕ, List, []}
 
 -- a number in each column
 pub record Six : Type 0 where

@@ -1,5 +1,6 @@
 -- The class of a member (document 01, "Member"): "Class tests are exact".
-use Rattle.records.specs.Notation.{ℕ, ◌*◌, Bool, ◌&&◌, ◌||◌, leb, ltb, eqb, pick}
+use Rattle.std.specs.Prelude.{◌*◌, ◌&&◌, ◌||◌}
+use Rattle.records.specs.Notation.{ℕ, Bool, leb, ltb, eqb, pick}
 use Rattle.records.specs.declared.MemberCase.{MemberCase}
 pub use Rattle.members.specs.declared.class.Class.{Class, TheVariants.ColumnA, TheVariants.ColumnB, TheVariants.ColumnC, TheVariants.WallA, TheVariants.WallB}
 

@@ -1,5 +1,6 @@
 -- What a member is found to be (document 01, "Member", "Refusals as returned").
-use Rattle.records.specs.Notation.{ℕ, ◌-◌, ◌*◌, Bool, true, false, not, ◌&&◌, ◌||◌, List, [], ◌∷◌, ◌++◌, ltb, eqb, pick}
+use Rattle.std.specs.Prelude.{◌-◌, ◌*◌, ◌&&◌, ◌||◌, ◌∷◌, ◌++◌}
+use Rattle.records.specs.Notation.{ℕ, Bool, true, false, not, List, [], ltb, eqb, pick}
 use Rattle.records.specs.{declared.Member.Member, declared.MemberCase.MemberCase, Records.zero_force, Records.in_cases, Records.known_form, Records.in_case, Records.member_case_fault, Records.member_fault}
 use Rattle.members.specs.Units.{Ratio, HoopRatio, Microradians, ratio_up, hoop_down}
 use Rattle.members.specs.Class.{code, is_wall, shear_below, class_of}

@@ -1,5 +1,6 @@
 -- The limits of a class at n, v and ρ (document 01, "Member"): "linear between rows and constant outside", as an exact fraction.
-use Rattle.records.specs.Notation.{ℕ, ◌+◌, ◌-◌, ◌*◌, min, max, List, [], ◌∷◌, leb, eqb, pick}
+use Rattle.std.specs.Prelude.{◌+◌, ◌-◌, ◌*◌, ◌∷◌}
+use Rattle.records.specs.Notation.{ℕ, min, max, List, [], leb, eqb, pick}
 use Rattle.members.specs.Units.{Ratio, Microradians, ratio_steps, micro_steps}
 use Rattle.members.specs.Class.{Class, ColumnA, ColumnB, ColumnC, WallA, WallB}
 use Rattle.members.specs.Tables.{Two, Places, Table, LimitSet, two}

@@ -1,5 +1,6 @@
 -- The units of document 01, "Member": "The grid belongs to the unit". Quotients are exact and rounded once.
-use Rattle.records.specs.Notation.{ℕ, ◌+◌, ◌-◌, ◌*◌, ◌/◌, min}
+use Rattle.std.specs.Prelude.{◌+◌, ◌-◌, ◌*◌, ◌/◌}
+use Rattle.records.specs.Notation.{ℕ, min}
 pub use Rattle.members.specs.declared.units.{Ratio.Ratio, HoopRatio.HoopRatio, Microradians.Microradians}
 
 -- a / b rounded up: the least number whose b-fold is not below a

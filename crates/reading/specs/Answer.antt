@@ -1,5 +1,6 @@
 -- The answer of the reading call, case by case in the paper's numbers (document 01, "Refusals as returned").
-use Rattle.records.specs.Notation.{ℕ, List, ◌++◌, length, drop}
+use Rattle.std.specs.Prelude.{◌++◌}
+use Rattle.records.specs.Notation.{ℕ, List, length, drop}
 use Rattle.records.specs.declared.{Header.Header, Storey.Storey, Member.Member}
 use Rattle.reading.specs.Survey.{Outcome, accepted, refused}
 use Rattle.reading.specs.declared.survey.ReadAnswer.{ReadAnswer, TheVariants.Accepted, TheVariants.Refused}

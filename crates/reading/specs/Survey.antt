@@ -1,6 +1,7 @@
 -- A survey file (document 01, "The survey record", "Refusals as returned"; document 02, N3): its form, the place and the number of each line, the first refusal
 -- of each, the first refusal of the file, and what an accepted file holds.
-use Rattle.records.specs.Notation.{ℕ, zero, suc, ◌+◌, ◌*◌, List, [], ◌∷◌, ◌++◌, ltb, eqb, length, drop, pick, in_order, first, listed}
+use Rattle.std.specs.Prelude.{◌+◌, ◌*◌, ◌∷◌, ◌++◌}
+use Rattle.records.specs.Notation.{ℕ, zero, suc, List, [], ltb, eqb, length, drop, pick, in_order, first, listed}
 use Rattle.records.specs.declared.{Storey.Storey, Member.Member, Kind.Kind, Kind.TheVariants.B, Kind.TheVariants.S4, Kind.TheVariants.D}
 use Rattle.records.specs.Records.{Survey, survey_of, fields, storey_kind, member_kind, header_fault, sides_fault, repeated}
 use Rattle.format.specs.Lines.{line_size, line_end, shaped, value_at, fields_fault, header_at, storey_at, case_start, case_lines, member_size, member_at}

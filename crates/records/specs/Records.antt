@@ -1,5 +1,6 @@
 -- What makes a record good, and which refusal comes first (document 01, "The survey record", "Refusals as returned").
-use Rattle.records.specs.Notation.{ℕ, ◌+◌, ◌-◌, Bool, ◌&&◌, ◌||◌, List, [], ◌∷◌, ◌++◌, leb, ltb, eqb, length, get_or, pick, every_below, any_below}
+use Rattle.std.specs.Prelude.{◌+◌, ◌-◌, ◌&&◌, ◌||◌, ◌∷◌, ◌++◌}
+use Rattle.records.specs.Notation.{ℕ, Bool, List, [], leb, ltb, eqb, length, get_or, pick, every_below, any_below}
 use Rattle.records.specs.declared.{Header.Header, Storey.Storey, LoadCase.LoadCase, Member.Member, MemberCase.MemberCase, Kind.Kind, Kind.TheVariants.B, Kind.TheVariants.S, Kind.TheVariants.M, Kind.TheVariants.S4, Kind.TheVariants.M4, Kind.TheVariants.D}
 
 -- a survey: "a header with its storeys and members as records"

@@ -1,7 +1,8 @@
 -- The printed sheet and the report call (document 01, "The printed sheet", "Refusals as returned"; document 02, N3): any survey, and a buffer of any length. A load
 -- case l is counted from 0.
 use Rattle.records.specs.Records.{in_cases, case_count, shear_of, in_case}
-use Rattle.records.specs.Notation.{ℕ, zero, suc, ◌+◌, Bool, List, [], ◌∷◌, ◌++◌, leb, eqb, length, drop, pick, in_order}
+use Rattle.std.specs.Prelude.{◌+◌, ◌∷◌, ◌++◌}
+use Rattle.records.specs.Notation.{ℕ, zero, suc, Bool, List, [], leb, eqb, length, drop, pick, in_order}
 use Rattle.checks.specs.Rows.{Storey, Member, Survey, storey_in, members_of, records_fault}
 use Rattle.members.specs.{declared.finding.Finding.Finding, Class.code, Finding.finding, Finding.flag, Finding.Returned, Finding.found, Finding.refused}
 use Rattle.totals.specs.declared.StoreyFinding.{StoreyFinding}

@@ -1,5 +1,6 @@
 -- The judgment of a building (document 01, "Storey and building", "Refusals as returned"): any survey.
-use Rattle.records.specs.Notation.{ℕ, ◌+◌, ◌<◌, max, Bool, true, false, ◌||◌, List, [], ◌∷◌, ◌≡◌, ltb, eqb, length, pick, any_below}
+use Rattle.std.specs.Prelude.{◌+◌, ◌<◌, ◌||◌, ◌∷◌, ◌≡◌}
+use Rattle.records.specs.Notation.{ℕ, max, Bool, true, false, List, [], ltb, eqb, length, pick, any_below}
 use Rattle.checks.specs.Rows.{Header, Storey, Member, Survey, records_fault, storey_in, members_of}
 use Rattle.members.specs.Finding.{flag, Returned, found, refused}
 use Rattle.storeys.specs.Storey.{Rules, storey_risky}

@@ -1,5 +1,6 @@
 -- The load cases of a storey together (document 02, N3: "A storey is Risky when it is in some case. One Risky by damage is so in every case").
-use Rattle.records.specs.Notation.{ℕ, true, false, List, ◌≡◌}
+use Rattle.std.specs.Prelude.{◌≡◌}
+use Rattle.records.specs.Notation.{ℕ, true, false, List}
 use Rattle.records.specs.{declared.Storey.Storey, declared.Member.Member, Records.in_cases, Records.shear_of}
 use Rattle.storeys.specs.Storey.{Rules, risky_by_damage, case_risky, storey_risky}
 

@@ -1,6 +1,7 @@
 -- The judgment of a storey (document 01, "Storey and building", "Refusals as returned"; document 02, N3): any storey record with any rows of members. What goes by
 -- load case takes the case l, counted from 0.
-use Rattle.records.specs.Notation.{ℕ, ◌+◌, ◌*◌, Bool, ◌&&◌, ◌||◌, List, [], ◌∷◌, ◌++◌, leb, ltb, eqb, length, pick, in_order, total, any_of, any_below}
+use Rattle.std.specs.Prelude.{◌+◌, ◌*◌, ◌&&◌, ◌||◌, ◌∷◌, ◌++◌}
+use Rattle.records.specs.Notation.{ℕ, Bool, List, [], leb, ltb, eqb, length, pick, in_order, total, any_of, any_below}
 use Rattle.records.specs.{declared.Storey.Storey, declared.Member.Member, Records.in_cases, Records.known_form, Records.case_count, Records.shear_of, Records.case_of, Records.in_case, Records.storey_fault}
 use Rattle.checks.specs.Rows.{count_fault, member_rows_fault}
 use Rattle.members.specs.{declared.tables.Share.Share, declared.tables.LimitSet.LimitSet, Tables.published, Tables.published_share}

@@ -1,5 +1,6 @@
 -- The allowed share of a storey (document 01, "Storey and building").
-use Rattle.records.specs.Notation.{ℕ, ◌-◌, ◌*◌, Bool, [], ◌∷◌, ◌≡◌, leb, ltb, pick}
+use Rattle.std.specs.Prelude.{◌-◌, ◌*◌, ◌∷◌, ◌≡◌}
+use Rattle.records.specs.Notation.{ℕ, Bool, [], leb, ltb, pick}
 use Rattle.members.specs.{declared.tables.Share.Share, declared.limits.Fraction.Fraction, Tables.published_share, Limits.row, Limits.interp}
 
 -- the allowed share in hundredths, at the axial ratios Σ of c members: linear between the ends and constant outside

@@ -1,6 +1,7 @@
 -- A storey's finding from the totals of its members, added up one member after another (document 01, "Storey and building"): for a pass that judges each member
 -- once. Any numbers may be handed in. Numbers past what good records give are not added, so that no sum wraps; of good records the finding is `storey_finding`.
-use Rattle.records.specs.Notation.{ℕ, ◌+◌, ◌*◌, ◌≤◌, ◌<◌, Bool, true, false, ◌&&◌, ◌||◌, leb, ltb, eqb, pick}
+use Rattle.std.specs.Prelude.{◌+◌, ◌*◌, ◌≤◌, ◌<◌, ◌&&◌, ◌||◌}
+use Rattle.records.specs.Notation.{ℕ, Bool, true, false, leb, ltb, eqb, pick}
 use Rattle.records.specs.declared.MemberCase.{MemberCase}
 use Rattle.members.specs.{declared.finding.Finding.Finding, declared.tables.Share.Share, Units.ratio_cap, Class.is_wall, Tables.published_share, Finding.flag}
 use Rattle.totals.specs.{declared.StoreyFinding.StoreyFinding, declared.Tally.Tally, Share.exceeds_share, Share.share_of}

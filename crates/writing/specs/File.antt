@@ -1,5 +1,6 @@
 -- A survey as a file (document 02, N1: "Write a loaded survey as a file in the house columns"; N3: in the form that its header tells; document 01, "The survey record").
-use Rattle.records.specs.Notation.{ℕ, List, [], ◌∷◌, ◌++◌, take, drop}
+use Rattle.std.specs.Prelude.{◌∷◌, ◌++◌}
+use Rattle.records.specs.Notation.{ℕ, List, [], take, drop}
 use Rattle.records.specs.declared.Kind.TheVariants.{B}
 use Rattle.records.specs.Records.{storey_kind, header_values, storey_values}
 use Rattle.checks.specs.Rows.{Storey, Member, Survey}

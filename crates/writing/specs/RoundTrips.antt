@@ -1,5 +1,6 @@
 -- The two round trips (document 02, N1), of the definitions that the calls of reading and writing promise.
-use Rattle.records.specs.Notation.{ℕ, ◌≤◌, List, [], ◌∷◌, ◌++◌, ◌≡◌, length, take, drop}
+use Rattle.std.specs.Prelude.{◌≤◌, ◌∷◌, ◌++◌, ◌≡◌}
+use Rattle.records.specs.Notation.{ℕ, List, [], length, take, drop}
 use Rattle.checks.specs.Rows.{Survey, records_fault}
 use Rattle.members.specs.Finding.{Returned, found}
 use Rattle.reading.specs.Survey.{accepted, survey}

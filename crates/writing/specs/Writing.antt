@@ -1,5 +1,6 @@
 -- The writing call (document 02, N1): any survey, and a buffer of any length.
-use Rattle.records.specs.Notation.{ℕ, List, [], ◌∷◌, ◌++◌, leb, eqb, length, drop, pick, in_order}
+use Rattle.std.specs.Prelude.{◌∷◌, ◌++◌}
+use Rattle.records.specs.Notation.{ℕ, List, [], leb, eqb, length, drop, pick, in_order}
 use Rattle.checks.specs.Rows.{Survey, records_fault}
 use Rattle.members.specs.Finding.{Returned, found, refused}
 use Rattle.writing.specs.declared.WriteAnswer.{WriteAnswer, TheVariants.Written, TheVariants.Refused}
