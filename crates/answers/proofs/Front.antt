@@ -9,10 +9,6 @@ use Rattle.columns.specs.Line.{at_front}
 use Rattle.columns.specs.Bytes.{stamped}
 use Rattle.columns.proofs.Stamps.{stamped-byte, stamped-both, put-fits, put_front}
 
--- written or not
-pub put-none : (w d : List ℕ) → length d < length w → d ≡ at_front w d
-put-none w d h = rw (lt-leb (length w) (length d) h)
-
 pub put_all : (w d : List ℕ) → length w ≤ length d → stamped d 0 w ≡ at_front w d
 put_all w d h = sym (put-fits w d 0 (omega arith)) ∙ put_front w d
 

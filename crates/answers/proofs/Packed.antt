@@ -14,10 +14,3 @@ pub refused : (r : Returned) (out : List ℕ) (number line : ℕ) → record { r
 refused r out number line e =
     let nothing : out ≡ at_front [] out = rw (le-leb 0 (length out) (omega arith)) in
     (ap packed e, nothing ∙ ap (λ (x : Returned). at_front x.values out) e)
-
--- on records: line 0
-pub record-refused : (r : Returned) (out : List ℕ) (number : ℕ) → record { refusal = number; line = 0; values = [] } ≡ r → (number ≡ packed r) × (out ≡ at_front r.values out)
-record-refused r out number e =
-    let p = refused r out number 0 e in
-    let z : number ≡ packing number 0 = omega arith in
-    (z ∙ p.0, p.1)

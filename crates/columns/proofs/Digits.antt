@@ -6,10 +6,9 @@ use mathlib.Core.Bool.{Bool, true, false}
 use mathlib.Core.List.{List, [], ◌∷◌, ◌++◌}
 use mathlib.Core.Path.{◌≡◌, refl, ap, sym, ◌∙◌}
 use lib.Dec.{ltb}
-use lib.ListN.{length, set, replicate, length-set, length-append, length-replicate}
+use lib.ListN.{length, set, replicate, length-append, length-replicate}
 use lib.Seq.{set-set, set_comm}
 use borrow.Author.Tests.{lt-ltb, le-ltb, ne_eqb, ltb-true, ltb-false}
-use Rattle.records.specs.Notation.{pick}
 use Rattle.format.specs.Spelling.{column, spelled}
 use Rattle.format.proofs.Typed.{length-spelled}
 use Rattle.columns.specs.Bytes.{stamped, sign_over, digits_over}
@@ -25,11 +24,6 @@ pub sign-none : (bytes : List ℕ) (at left sign : ℕ) → left ≤ 0 → bytes
 unfolding sign_over
 sign-none bytes at zero sign h = refl
 sign-none bytes at (suc left) sign h = absurd (not-suc-le-zero h)
-
-pub length-sign : (bytes : List ℕ) (at left sign : ℕ) → length (sign_over bytes at left sign) ≡ length bytes
-unfolding sign_over
-length-sign bytes at zero sign = refl
-length-sign bytes at (suc left) sign = length-set bytes (at + left) sign
 
 pub over_last : (bytes : List ℕ) (at left sign q : ℕ) → 0 < left → q < 10 → sign_over (set bytes (at + (left - 1)) (48 + q % 10)) at (left - 1) sign ≡ digits_over bytes at left sign q
 unfolding digits_over

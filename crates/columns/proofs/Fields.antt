@@ -1,14 +1,13 @@
 -- A field put into bytes changes its columns alone.
 use Prim.Native.Nat.{ℕ, ◌+◌, ◌≤◌, ◌<◌}
 use native.Mathlib.Omega.{arith}
-use mathlib.Core.Bool.{Bool, true, false}
+use mathlib.Core.Bool.{true, false}
 use mathlib.Core.List.{List, [], ◌∷◌}
 use mathlib.Core.Path.{◌≡◌, refl, ap, ◌∙◌}
 use lib.Dec.{leb}
 use lib.ListN.{length, take, drop, set, replicate}
 use lib.Seq.{take-set-le, drop-set-lt}
 use borrow.Author.Tests.{le-leb, lt-leb}
-use Rattle.records.specs.Notation.{pick}
 use Rattle.format.specs.Spelling.{spelled}
 use Rattle.format.proofs.Typed.{length-spelled}
 use Rattle.columns.specs.Bytes.{stamped, digits_over, put_at, place_after, KeptOutside}

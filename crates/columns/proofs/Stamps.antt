@@ -1,18 +1,17 @@
 -- Laws of bytes put in the place of others, and of the lines' lengths.
-use Prim.Native.Nat.{ℕ, ◌+◌, ◌*◌, ◌-◌, ◌≤◌, ◌<◌}
+use Prim.Native.Nat.{ℕ, ◌+◌, ◌*◌, ◌≤◌, ◌<◌}
 use native.Mathlib.Omega.{arith}
 use native.Mathlib.Numerals.{add-one}
 use mathlib.Core.Bool.{Bool, true, false}
 use mathlib.Core.List.{List, [], ◌∷◌, ◌++◌, append_assoc}
 use mathlib.Core.Path.{◌≡◌, refl, ap, sym, ◌∙◌}
-use lib.Dec.{leb, ltb}
+use lib.Dec.{leb}
 use lib.ListN.{length, drop, set, get_or, length-set, length-append, drop_of_length-le}
 use lib.Seq.{drop-cons, set-append_seam, append_snoc}
 use Rattle.records.specs.Notation.{pick}
 use Rattle.format.specs.Spelling.{spelled}
 use Rattle.format.proofs.Typed.{length-spelled}
-use borrow.Author.Tests.{le-leb, lt-leb, leb-true, ltb-true, ltb-false}
-use Rattle.records.proofs.Below.{agree}
+use borrow.Author.Tests.{le-leb, leb-true}
 use Rattle.columns.specs.Line.{printed_numbers, line, at_front, put_length}
 use Rattle.columns.specs.Bytes.{stamped, put_at, place_after}
 
@@ -63,14 +62,6 @@ module _ (text bytes : List ℕ) where
   pub place-front : place_after text 0 (length bytes) ≡ put_length text (length bytes)
   place-front = let z : 0 + length text ≡ length text = omega arith in rw z
 
-  put-within-by : (t : Bool) → leb (length text) (length bytes) ≡ t → put_length text (length bytes) ≤ length (at_front text bytes)
-  put-within-by true e = rw e (omega (arith, length-append text (drop (length text) bytes)))
-  put-within-by false e = rw e (omega arith)
-
-  -- what was put lies in the bytes
-  pub put-within : (n : ℕ) (after : List ℕ) → n ≡ put_length text (length bytes) → after ≡ at_front text bytes → n ≤ length after
-  put-within n after e f = rw (e, f) (put-within-by (leb (length text) (length bytes)) refl)
-
 -- a text that fits from a place on
 module _ (text bytes : List ℕ) (at : ℕ) where
   pub put-fits : at + length text ≤ length bytes → put_at text at bytes ≡ stamped bytes at text
@@ -78,12 +69,6 @@ module _ (text bytes : List ℕ) (at : ℕ) where
 
   pub place-fits : at + length text ≤ length bytes → place_after text at (length bytes) ≡ at + length text
   place-fits h = rw (le-leb _ _ h)
-
--- what is left after the fields holds the tag, the LF, and the bytes before the line
-pub room_by : (room at tag fields : ℕ) → fields + tag < room → ltb at (room - fields - tag) ≡ leb (at + (tag + (fields + 1))) room
-room_by room at tag fields h =
-    agree _ _ (λ e. le-leb (at + (tag + (fields + 1))) room (omega (arith, ltb-true at (room - fields - tag) e)))
-    (λ e. lt-leb (at + (tag + (fields + 1))) room (omega (arith, ltb-false at (room - fields - tag) e)))
 
 -- ---- the loops
 

@@ -35,19 +35,10 @@ members_in (refused n line) = []
 
 -- the rows that are handed on are those that were filled
 module _ (o : Outcome) (t : Told) (e : t ≡ told o) where
-  storeys-held : (p : Outcome) (before : List Storey) → storeys_told (told p) ≤ length (storeys_after_call p before)
-  storeys-held (accepted a) before = omega (arith, length-append a.storeys (drop (length a.storeys) before))
-  storeys-held (refused n line) before = omega arith
 
   members-held : (p : Outcome) (before : List Member) → members_told (told p) ≤ length (members_after_call p before)
   members-held (accepted a) before = omega (arith, length-append a.members (drop (length a.members) before))
   members-held (refused n line) before = omega arith
-
-  pub storeys-within : (n : ℕ) (before after : List Storey) → n ≡ storeys_told t → after ≡ storeys_after_call o before → n ≤ length after
-  storeys-within n before after en ea = rw (en, e, ea) (storeys-held o before)
-
-  pub members-within : (n : ℕ) (before after : List Member) → n ≡ members_told t → after ≡ members_after_call o before → n ≤ length after
-  members-within n before after en ea = rw (en, e, ea) (members-held o before)
 
   storeys-of : (p : Outcome) (before : List Storey) → take (storeys_told (told p)) (storeys_after_call p before) ≡ storeys_in p
   storeys-of (accepted a) before = take-append_seam a.storeys (drop (length a.storeys) before)
@@ -62,9 +53,6 @@ module _ (o : Outcome) (t : Told) (e : t ≡ told o) where
 
   pub members-taken : (n : ℕ) (before after : List Member) → n ≡ members_told t → after ≡ members_after_call o before → take n after ≡ members_in o
   members-taken n before after en ea = rw (en, e, ea) (members-of o before)
-
-pub taken-length : {A : Type 0} (n : ℕ) (xs : List A) → n ≤ length xs → n ≡ length (take n xs)
-taken-length n xs h = simp length-take (omega (arith, h))
 
 -- the report call writes nothing of a blank header
 blank-refused : (room : ℕ) → eqb (report_fault (survey_of blank [] []) room) 0 ≡ false

@@ -20,15 +20,5 @@ module _ (count : ℕ) (r : Returned) (before : List ℕ) where
   pub put : {n : ℕ} {after : List ℕ} → count ≤ length before → n ≡ packed r → after ≡ at_front r.values before → (n ≡ given count r before) × (after ≡ out_after_call count r before)
   put h e p = (e ∙ sym (with-room count before (packed r) short h), p ∙ sym (with-room count before (at_front r.values before) before h))
 
-  pub not-put : length before < count → (short ≡ given count r before) × (before ≡ out_after_call count r before)
-  not-put h = (sym (no_room count before (packed r) short h), sym (no_room count before (at_front r.values before) before h))
-
   -- and in what else was lent
   module _ {A : Type 0} (x y : A) where
-    pub put-kept : (f : Returned) {n : ℕ} {after : List ℕ} {kept : A} → count ≤ length before → f ≡ r → n ≡ packed f → after ≡ at_front f.values before → kept ≡ x → (n ≡ given count r before) × ((after ≡ out_after_call count r before) × (kept ≡ if_room count before x y))
-    put-kept f h e p q k =
-        let both = put h (p ∙ ap packed e) (q ∙ ap (λ (t : Returned). at_front t.values before) e) in
-        (both.0, (both.1, k ∙ sym (with-room count before x y h)))
-
-    pub not-put-kept : length before < count → (short ≡ given count r before) × ((before ≡ out_after_call count r before) × (y ≡ if_room count before x y))
-    not-put-kept h = ((not-put h).0, ((not-put h).1, sym (no_room count before x y h)))

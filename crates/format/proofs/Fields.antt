@@ -1,5 +1,5 @@
 -- The loops over a line's fields, what holds after j of them and one turn; and fields that bring no refusal.
-use Prim.Native.Nat.{ℕ, ◌+◌, ◌*◌, ◌-◌, ◌≤◌, ◌<◌}
+use Prim.Native.Nat.{ℕ, ◌+◌, ◌*◌, ◌≤◌, ◌<◌}
 use native.Mathlib.Omega.{arith}
 use native.Mathlib.Nat.{not-suc-le-zero}
 use mathlib.Core.Bool.{Bool, true, false, ◌&&◌}
@@ -7,11 +7,10 @@ use mathlib.Core.List.{List}
 use mathlib.Core.Option
 use mathlib.Core.Option.{Option, some, none}
 use mathlib.Core.Path.{◌≡◌, refl, sym, ◌∙◌}
-use lib.Dec.{leb}
 use lib.ListN.{length, take, drop, get_or, set, length-set}
 use lib.Seq.{get_or-set_same, get_or-set_other}
 use borrow.Author.Count.{below_more}
-use borrow.Author.Tests.{leb-true, leb-false, le-leb, lt-leb}
+use borrow.Author.Tests.{le-leb}
 use Rattle.records.specs.Notation.{pick, every_below, first}
 use Rattle.records.specs.Records.{Allowed, allows, never, ranges, fields, in_range}
 use Rattle.format.specs.Spelling.{field_of}
@@ -24,7 +23,7 @@ use Rattle.records.specs.declared.Kind.{Kind}
 use Rattle.records.specs.declared.Kind.TheVariants.{M}
 use Rattle.records.proofs.Firsts.{first-none, first_next, first-kept, first-clear, first-zero}
 use Rattle.records.proofs.Validity.{clear}
-use Rattle.records.proofs.Below.{agree, every-none, every-next, every-at}
+use Rattle.records.proofs.Below.{every-none, every-next, every-at}
 use Rattle.records.proofs.Allowing.{three-fields}
 use Rattle.records.proofs.Lines.{InRanges}
 
@@ -152,20 +151,11 @@ in-ranges t s at e j h = allowed (field_at t s at j) _ (first-clear 0 (λ r. r) 
 
 -- ---- the fields of any bytes
 module _ (t : Kind) (s : List ℕ) (at : ℕ) where
-  pub cut_short : (n : ℕ) → n ≡ fields t → length s < 1 + 8 * n → false ≡ holds_fields t s at
-  cut_short n e h = sym (lt-leb (at + 1 + 8 * fields t) (length s) (omega arith))
-
-  pub by-room : (n : ℕ) → n ≡ fields t → 1 + 8 * n ≤ length s → leb at (length s - (1 + 8 * n)) ≡ holds_fields t s at
-  by-room n e h = agree _ _ (λ q. le-leb (at + 1 + 8 * fields t) (length s) (omega (arith, leb-true at (length s - (1 + 8 * n)) q))) (λ q. lt-leb (at + 1 + 8 * fields t) (length s) (omega (arith, leb-false at (length s - (1 + 8 * n)) q)))
-
   pub fields-held : (r : Fields) → FieldsOf t s at r → at + 1 + 8 * fields t ≤ length s → FieldsHeld t s at r
   fields-held r o h = let e = le-leb (at + 1 + 8 * fields t) (length s) h in record { written = rw e at o.written; values = λ j l. rw e at (o.values j l) }
 
   pub fault-held : (v : ℕ) → v ≡ pick (holds_fields t s at) (fields_fault t s at) 1 → at + 1 + 8 * fields t ≤ length s → v ≡ fields_fault t s at
   fault-held v e h = e ∙ rw (le-leb (at + 1 + 8 * fields t) (length s) h)
-
-  pub fields-of : (r : Fields) → holds_fields t s at ≡ true → FieldsHeld t s at r → FieldsOf t s at r
-  fields-of r e o = record { written = rw e o.written; values = λ j l. rw e (o.values j l) }
 
   pub fields-none : (r : Fields) → holds_fields t s at ≡ false → r.written ≡ false → ((j : ℕ) → j < fields t → get_or r.values j 0 ≡ 0) → FieldsOf t s at r
   fields-none r e w z = record { written = rw e w; values = λ j l. rw e (z j l) }

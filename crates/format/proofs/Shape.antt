@@ -10,7 +10,7 @@ use lib.ListN.{length, drop, get_or, length-drop, drop_of_length-le}
 use lib.Seq.{drop-cons, get_or-drop}
 use borrow.Author.Tests.{eqb-true, eq-eqb, ne_eqb, lt-ltb, le-ltb, ltb-true, ltb-false}
 use Rattle.records.specs.Records.{fields}
-use Rattle.format.specs.Lines.{tag_byte, line_end, shaped, framed}
+use Rattle.format.specs.Lines.{tag_byte, line_end, shaped}
 use Rattle.records.specs.declared.Kind.{Kind}
 use Rattle.records.specs.declared.Kind.TheVariants.{B, S, M, S4, M4, D}
 use Rattle.records.proofs.Below.{agree, and_left, and_right}
@@ -78,13 +78,3 @@ module _ (l : List ℕ) (at : ℕ) (t : Kind) where
       let p : line_end (drop at l) ≡ 8 * fields t + 1 = omega arith in
       let q : end ≡ at + (8 * fields t + 1) = omega arith in
       rw (head, eq-eqb _ _ e, eq-eqb _ _ p, q, shift-test at (length l) (8 * fields t + 1) h, ← length-drop at l)
-
-  -- its tag and its LF where they must stand
-  pub too_short : length l - at ≤ 8 * fields t + 1 → false ≡ framed t (drop at l)
-  too_short h = rw (length-drop at l, le-ltb _ _ h)
-
-  pub other_tag : (get_or l at 0 ≡ tag_byte t → ⊥) → false ≡ framed t (drop at l)
-  other_tag ne = rw (head, ne_eqb _ _ ne) (simp and-false)
-
-  pub by_last : (n : ℕ) → n ≡ fields t → 8 * n + 1 < length l - at → get_or l at 0 ≡ tag_byte t → eqb (get_or l (at + (8 * n + 1)) 0) 10 ≡ framed t (drop at l)
-  by_last n q h e = rw (q, length-drop at l, lt-ltb (8 * fields t + 1) (length l - at) (omega arith), head, eq-eqb _ _ e, get_or-drop at l (8 * fields t + 1) 0)

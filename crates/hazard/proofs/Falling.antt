@@ -1,5 +1,5 @@
 -- From T_A on the spectrum never rises: equation 2.3 as exact values, then rounded up.
-use Prim.Native.Nat.{ℕ, ◌+◌, ◌*◌, ◌≤◌, ◌<◌}
+use Prim.Native.Nat.{ℕ, ◌*◌, ◌≤◌, ◌<◌}
 use native.Mathlib.Decide.{dec_le}
 use native.Mathlib.Nat.{mul-le-mul, mul-le-mul_left, mul-le-mul_right, mul-pos, le_of_mul-le-mul_right}
 use native.Mathlib.Omega.{arith}
@@ -8,7 +8,7 @@ use Rattle.members.specs.declared.limits.Fraction.{Fraction}
 use Rattle.members.specs.Units.{ceiling}
 use Rattle.members.proofs.Fractions.{◌⊑◌, ⊑_refl, ⊑_trans}
 use Rattle.members.proofs.Rounding.{ceiling-covers, ceiling-least}
-use Rattle.hazard.specs.Spectrum.{t_l, line1, line2, line3, line4, spectral}
+use Rattle.hazard.specs.Spectrum.{t_l, line1, line2, spectral}
 use Rattle.hazard.proofs.Lines.{to-a, to-b, to-l, past-l}
 
 module _ (a b : ℕ) where

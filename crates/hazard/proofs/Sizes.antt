@@ -1,5 +1,5 @@
 -- Sizes of what the definitions give.
-use Prim.Native.Nat.{ℕ, ◌+◌, ◌-◌, ◌*◌, ◌≤◌, ◌<◌}
+use Prim.Native.Nat.{ℕ, ◌≤◌, ◌<◌}
 use native.Mathlib.Nat.{mul-le-mul}
 use native.Mathlib.Omega.{arith}
 use mathlib.Core.Bool.{Bool, true, false, ◌&&◌}
@@ -11,7 +11,7 @@ use Rattle.records.proofs.Below.{and_left, and_right, every-at}
 use Rattle.members.specs.Limits.{interp}
 use Rattle.hazard.specs.Tables.{short_period, one_second}
 use Rattle.hazard.specs.Site.{Motion, Site, between, factor, entry_exact, entry_of, row_of, site_of}
-use Rattle.hazard.specs.Spectrum.{Level, level_of, level, replaced}
+use Rattle.hazard.specs.Spectrum.{level_of, level, replaced}
 use Rattle.hazard.specs.Sizes.{SizedMotion, SizedSite, SizedLevel}
 use Rattle.hazard.proofs.Places.{short-place, long-place}
 

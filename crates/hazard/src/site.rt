@@ -4,7 +4,7 @@ ghost use Rattle.hazard.specs.Tables.{short_period, one_second};
 ghost use Rattle.hazard.specs.Site.{factor, row_of, site_of, returned_site, site_returned};
 ghost use Rattle.hazard.specs.Sizes.{SizedMotion};
 
-use crate::ranges::site_fault;
+use crate::refusals::site_fault;
 use crate::table::entry;
 
 // The map coefficients of a level of ground motion, in hundredths.

@@ -3,7 +3,7 @@ ghost use Rattle.std.specs.Prelude.{◌≡◌, ◌≤◌};
 ghost use Rattle.hazard.specs.Spectrum.{spectral, level_of, spectrum_at, returned_spectrum, spectrum_returned};
 ghost use Rattle.hazard.specs.Sizes.{Sized, SizedSite, SizedLevel, SizedFraction};
 
-use crate::ranges::spectrum_fault;
+use crate::refusals::spectrum_fault;
 use crate::site::{Motion, Site, site_of};
 use members::limits::Fraction;
 

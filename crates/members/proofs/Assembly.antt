@@ -17,9 +17,9 @@ use Rattle.members.specs.declared.tables.LimitSet.{LimitSet}
 use Rattle.members.specs.declared.units.Ratio.{Ratio}
 use Rattle.members.specs.declared.units.Microradians.{Microradians}
 use Rattle.members.specs.Class.{class_of}
-use Rattle.members.specs.Tables.{published, published_share, places, moments, rotations}
+use Rattle.members.specs.Tables.{published, places, moments, rotations}
 use Rattle.members.specs.Limits.{m_limit_at, rotation_limit_at}
-use Rattle.members.specs.Sizes.{SizedShare, SizedSet}
+use Rattle.members.specs.Sizes.{SizedSet}
 use Rattle.members.specs.Finding.{axial_ratio_d, moment_ratio, m_limit_of, rotation_limit_of, m_dropped_of, over_m_of, is_over, finding_by, knowledge, case_answer_by, judged_by, answer_by}
 use Rattle.members.specs.Assembly.{ratios}
 use Rattle.members.proofs.Rounding.{microradians}
@@ -46,9 +46,6 @@ level-sized k e = go (eqb k 90) (eqb k 100) (eqb-true k 90) (eqb-true k 100) e
     go : (a b : Bool) → (a ≡ true → k ≡ 90) → (b ≡ true → k ≡ 100) → (a || b) ≡ true → (1 ≤ k) × (k ≤ 100)
     go true b f g e = (omega (arith, f refl), omega (arith, f refl))
     go false b f g e = (omega (arith, g e), omega (arith, g e))
-
-pub share-sized : SizedShare published_share
-share-sized = record { ends = record { first = omega arith; most = omega arith }; shares = record { r1 = omega arith; r2 = omega arith } }
 
 -- the published set is within the sizes that the code computes with
 pub published-sized : SizedSet published

@@ -1,5 +1,5 @@
 -- Exact values compared by cross multiplication.
-use Prim.Native.Nat.{ℕ, ◌-◌, ◌*◌, ◌/◌, ◌≤◌, ◌<◌}
+use Prim.Native.Nat.{ℕ, ◌*◌, ◌/◌, ◌≤◌, ◌<◌}
 use native.Mathlib.Nat.{mul-le-mul_right, mul-pos, le-div_iff_mul-le, div-mul-le_self, le_of_mul-le-mul_right}
 use native.Mathlib.Omega.{arith}
 use Rattle.members.specs.declared.limits.Fraction.{Fraction}

@@ -1,6 +1,6 @@
 -- A value between rows is a mean of their limits: it is within what bounds them, whatever the table. So no product of the code wraps.
 use Prim.Native.Nat.{ℕ, ◌+◌, ◌-◌, ◌*◌, ◌≤◌, ◌<◌}
-use native.Mathlib.Nat.{le_trans, mul-le-mul_right, mul-le-mul_left, mul-pos}
+use native.Mathlib.Nat.{le_trans, mul-le-mul_right, mul-pos}
 use native.Mathlib.Decide.{dec_le}
 use native.Mathlib.Omega.{arith}
 use mathlib.Core.List.{List, [], ◌∷◌}
@@ -148,10 +148,6 @@ module _ {most : ℕ} (p : Places) (t : Table) (sp : SizedPlaces p) (st : SizedT
   exact-mean ColumnC zone n v ρ = column-c n
   exact-mean WallA zone n v ρ = wall-a (eqb zone 1) n v
   exact-mean WallB zone n v ρ = wall-b v
-
--- so its numerator is bounded
-pub num-most : {most : ℕ} {f : Fraction} → Mean most f → f.num ≤ most * 40_000_000_000
-num-most {most} {f} h = omega (arith, h.mean, mul-le-mul_left most h.den)
 
 cut : (b : Bool) → pick b 3 4 ≤ 4
 cut true = omega arith

@@ -16,7 +16,7 @@ use Rattle.members.specs.declared.tables.LimitSet.{LimitSet}
 use Rattle.members.specs.Class.{is_wall, hoops_hold, detailed, shear_below, column_class, class_of}
 use Rattle.members.specs.Ordered.{ordered_set}
 use Rattle.members.specs.Limits.{m_limit_at, rotation_limit_at}
-use Rattle.members.specs.Finding.{axial_ratio, axial_ratio_d, wall_stress, hoop_ratio, axial, stress, hoops, m_limit_of, rotation_limit_of, m_dropped_of, exceeds, is_over}
+use Rattle.members.specs.Finding.{axial_ratio, axial_ratio_d, wall_stress, hoop_ratio, m_limit_of, rotation_limit_of, m_dropped_of, exceeds, is_over}
 use Rattle.members.proofs.Order.{Later, same, a-then-b, a-then-c, b-then-c, Ratios≤, m-falls, rotation-falls}
 use Rattle.members.proofs.Rounding.{axial-mono, moment-mono, stress-mono, hoops-mono}
 

@@ -1,16 +1,15 @@
 -- The ranges of a line's fields, by the tests and the tables that the code has.
-use Prim.Native.Nat.{ℕ, zero, suc, ◌+◌, ◌-◌, ◌≤◌, ◌<◌}
+use Prim.Native.Nat.{ℕ, zero, suc, ◌+◌, ◌≤◌, ◌<◌}
 use native.Mathlib.Omega.{arith}
-use native.Mathlib.Nat.{le_of_suc-le-suc, not-suc-le-zero, eq-or-lt_of_le}
+use native.Mathlib.Nat.{le_of_suc-le-suc, not-suc-le-zero}
 use mathlib.Core.Bool.{◌&&◌}
-use mathlib.Core.Logic.{⊎_elim}
 use mathlib.Core.List.{List, [], ◌∷◌}
-use mathlib.Core.Path.{◌≡◌, refl, ap, ◌∙◌}
+use mathlib.Core.Path.{◌≡◌, refl, ap}
 use lib.Dec.{leb}
 use lib.ListN.{length, get_or, get_or-eq_default, get_or-append}
 use lib.Seq.{get_or-append-add}
 use Rattle.records.specs.Notation.{every_below}
-use Rattle.records.specs.Records.{Allowed, between, either, allows, never, ranges, fields, in_range, line_in_range, header_ranges, storey_ranges, storey_cases_ranges, shear_range, member_ranges, case_ranges}
+use Rattle.records.specs.Records.{Allowed, between, either, allows, never, ranges, fields, in_range, line_in_range, member_ranges, case_ranges}
 use Rattle.records.specs.declared.Kind.{Kind}
 use Rattle.records.specs.declared.Kind.TheVariants.{B, S, M, S4, M4, D}
 use Rattle.records.proofs.Below.{every-same}
@@ -41,34 +40,8 @@ highs [] = []
 highs (between l m ∷ rs) = m ∷ highs rs
 highs (either a b ∷ rs) = b ∷ highs rs
 
--- the code's two tables are those of the ranges, of the B line beside k and the number of S lines
-pub in-header-tables : (ns j v : ℕ) → j < fields B → (j ≡ 0 → ⊥) → (j ≡ 5 → ⊥) → (leb (get_or (lows (header_ranges 99)) j 0) v && leb v (get_or (highs (header_ranges 99)) j 0)) ≡ allows (get_or (header_ranges ns) j never) v
-in-header-tables ns zero v h a b = absurd (a refl)
-in-header-tables ns (suc zero) v h a b = refl
-in-header-tables ns (suc (suc zero)) v h a b = refl
-in-header-tables ns (suc (suc (suc zero))) v h a b = refl
-in-header-tables ns (suc (suc (suc (suc zero)))) v h a b = refl
-in-header-tables ns (suc (suc (suc (suc (suc zero))))) v h a b = absurd (b refl)
-in-header-tables ns (suc (suc (suc (suc (suc (suc j)))))) v h a b = let z : ⊥ = omega arith in absurd z
-
-pub in-storey-tables : (j v : ℕ) → j < fields S → (leb (get_or (lows storey_ranges) j 0) v && leb v (get_or (highs storey_ranges) j 0)) ≡ allows (get_or storey_ranges j never) v
-in-storey-tables j v h = at_table (lows storey_ranges) (highs storey_ranges) j v h refl
-
 pub in-member-tables : (j v : ℕ) → j < fields M → (leb (get_or (lows (ranges M 0)) j 0) v && leb v (get_or (highs (ranges M 0)) j 0)) ≡ allows (get_or (ranges M 0) j never) v
 in-member-tables j v h = at_table (lows (ranges M 0)) (highs (ranges M 0)) j v h refl
-
--- the lines of the form of four cases take the ranges of S and M: the shears
-pub shear-fields : (j : ℕ) → (j ≡ 0 → ⊥) → j ≤ 4 → shear_range ≡ get_or storey_cases_ranges j never
-shear-fields zero h l = absurd (h refl)
-shear-fields (suc zero) h l = refl
-shear-fields (suc (suc zero)) h l = refl
-shear-fields (suc (suc (suc zero))) h l = refl
-shear-fields (suc (suc (suc (suc zero)))) h l = refl
-shear-fields (suc (suc (suc (suc (suc j))))) h l = let z : ⊥ = omega arith in absurd z
-
--- the count
-pub count-field : (j : ℕ) → 4 < j → get_or storey_ranges (j - 3) never ≡ get_or storey_cases_ranges j never
-count-field j h = ⊎_elim (λ (e : 5 ≡ j). rw (← e)) (λ (l : 5 < j). rw (get_or-eq_default storey_ranges never {n = j - 3} (omega arith), get_or-eq_default storey_cases_ranges never {n = j} (omega arith))) (eq-or-lt_of_le h)
 
 -- the first 18 fields of an M line, and its last 8
 pub member-field : (j : ℕ) → j < fields M4 → get_or (ranges M 0) j never ≡ get_or (ranges M4 0) j never

@@ -10,7 +10,7 @@ use lib.ListN.{length, get_or}
 use borrow.Author.Tests.{eqb-true}
 use Rattle.records.specs.Notation.{pick, every_below}
 use Rattle.records.specs.declared.LoadCase.{LoadCase}
-use Rattle.records.specs.Records.{zero_force, no_case, is_blank, in_cases, case_count, case_values}
+use Rattle.records.specs.Records.{no_case, is_blank, in_cases, case_count, case_values}
 use Rattle.records.proofs.Below.{every-at}
 
 -- an element of a list, whatever stands past its end

@@ -5,7 +5,7 @@ use native.Mathlib.Nat.{not-suc-le-zero, eq-or-lt_of_le, le_of_suc-le-suc}
 use native.Mathlib.Numerals.{add-one}
 use mathlib.Core.Bool.{Bool, true, false}
 use mathlib.Core.Logic.{⊎_elim}
-use mathlib.Core.Path.{◌≡◌, refl, sym, ◌∙◌}
+use mathlib.Core.Path.{◌≡◌, refl}
 use lib.Dec.{eqb, eqb-suc-zero}
 use borrow.Author.Tests.{eq-eqb, ne_eqb, eqb-true, eqb-false}
 use mathlib.Core.List.{List, [], ◌∷◌, ◌++◌}
@@ -77,13 +77,6 @@ pub first-zero : {A : Type 0} (nil : A) (number : A → ℕ) (f : ℕ → A) (n 
 unfolding first
 first-zero nil number f zero h g = h
 first-zero nil number f (suc n) h g = rw (eq-eqb _ _ (first-zero nil number f n h (λ j l. g j (omega arith)))) (g n (omega arith))
-
--- the first of two refusals
-pub two-first : (a b : ℕ) → (a ≡ 0 → ⊥) → a ≡ in_order (a ∷ b ∷ [])
-two-first a b h = sym (pick_other a (in_order (b ∷ [])) h)
-
-pub two-second : (a b : ℕ) → a ≡ 0 → b ≡ in_order (a ∷ b ∷ [])
-two-second a b h = sym (pick-zero a (in_order (b ∷ [])) h ∙ last_of b)
 
 -- ---- refusals in order
 pub in-order-both : (xs ys : List ℕ) → in_order (xs ++ ys) ≡ pick (eqb (in_order xs) 0) (in_order ys) (in_order xs)

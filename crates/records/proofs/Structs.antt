@@ -1,6 +1,5 @@
-use Prim.Native.Nat.{ℕ}
 use mathlib.Core.Path.{◌≡◌}
-use lib.ListN.{length, length-map}
+use lib.ListN.{length}
 use denote.RattleType.{Valss, owns}
 use denote.Shadow.{shadow}
 use denote.Struct.Declared.{fields}

@@ -1,5 +1,5 @@
 -- The facts of a record that its check refuses nothing of.
-use Prim.Native.Nat.{ℕ, zero, suc, ◌-◌, ◌≤◌, ◌<◌}
+use Prim.Native.Nat.{ℕ, zero, suc, ◌≤◌, ◌<◌}
 use native.Mathlib.Omega.{arith}
 use mathlib.Core.Bool.{Bool, true, false, ◌&&◌, ◌||◌}
 use mathlib.Core.List.{List, [], ◌∷◌}
@@ -9,7 +9,7 @@ use lib.ListN.{length}
 use borrow.Author.Tests.{leb-true, eqb-true, lt-ltb, le-ltb}
 use Rattle.records.specs.Notation.{pick, every_below}
 use Rattle.records.specs.declared.{Header.Header, Storey.Storey, Member.Member, MemberCase.MemberCase, Kind.Kind, Kind.TheVariants.B, Kind.TheVariants.S, Kind.TheVariants.M, Kind.TheVariants.S4}
-use Rattle.records.specs.Records.{allows, shear_range, count_range, ranges, fields, in_range, line_in_range, in_cases, known_form, case_count, storey_kind, no_case, shear_of, case_of, in_case, header_values, storey_values, member_case_values, shears_fit, sides_fault, case_fits, header_fault, storey_fault, member_case_fault, member_fault}
+use Rattle.records.specs.Records.{allows, shear_range, count_range, fields, in_range, line_in_range, in_cases, known_form, case_count, storey_kind, no_case, shear_of, case_of, in_case, header_values, storey_values, member_case_values, shears_fit, sides_fault, case_fits, header_fault, storey_fault, member_case_fault, member_fault}
 use Rattle.records.specs.Valid.{Valid}
 use Rattle.records.proofs.Below.{and_left, and_right, every-at}
 use Rattle.records.proofs.Cases.{blank-is, four, cases-most}

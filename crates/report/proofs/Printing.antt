@@ -56,12 +56,6 @@ unfolding refusal_line_of
 refusal-line-is refusal place = refl
 
 -- ---- a form's cases and sizes
-four-most : (t : Bool) (c : ℕ) → c < pick t 4 1 → c < 4
-four-most true c h = h
-four-most false c h = omega arith
-
-pub case-most : (form c : ℕ) → c < case_count form → c < 4
-case-most form c h = four-most (in_cases form) c h
 
 pub size-four : (form a b : ℕ) → form ≡ 2 → sheet_line_size a ≡ sheet_line_size (pick (in_cases form) a b)
 size-four form a b e = rw e
@@ -69,31 +63,13 @@ size-four form a b e = rw e
 pub size-old : (form a b : ℕ) → (form ≡ 2 → ⊥) → sheet_line_size b ≡ sheet_line_size (pick (in_cases form) a b)
 size-old form a b h = rw (ne_eqb form 2 h)
 
-pub case-size-four : (form storeys members : ℕ) → form ≡ 2 → sheet_line_size 8 * members + sheet_line_size 7 * storeys ≡ case_size form storeys members
-case-size-four form storeys members e = rw e
-
-pub case-size-old : (form storeys members : ℕ) → (form ≡ 2 → ⊥) → sheet_line_size 7 * members + sheet_line_size 6 * storeys ≡ case_size form storeys members
-case-size-old form storeys members h = rw (ne_eqb form 2 h)
-
 -- a sheet's size by the number of cases and the size of one
 module _ (form storeys members n size : ℕ) (e : n ≡ case_count form) (g : size ≡ case_size form storeys members) where
   pub sheet-size-is : n * size + building_line_size ≡ sheet_size form storeys members
   sheet-size-is = rw (e, g)
 
-  most-by : (t : Bool) → storeys ≤ 10 → members ≤ 2_000 → pick t 4 1 * (sheet_line_size (pick t 8 7) * members + sheet_line_size (pick t 7 6) * storeys) ≤ 1_000_000
-  most-by true h l = omega arith
-  most-by false h l = omega arith
-
-  pub sheet-size-most : storeys ≤ 10 → members ≤ 2_000 → n * size ≤ 1_000_000
-  sheet-size-most h l = rw (e, g) (most-by (in_cases form) h l)
-
 module _ (first form storeys members room : ℕ) where
-  pub fault-first : (first ≡ 0 → ⊥) → first ≡ fault_by first form storeys members room
-  fault-first h = rw (ne_eqb first 0 h)
 
   module _ (e : first ≡ 0) (size : ℕ) (q : size ≡ sheet_size form storeys members) where
     pub fault-none : size ≤ room → 0 ≡ fault_by first form storeys members room
     fault-none h = rw (eq-eqb first 0 e, ← q, le-leb size room h)
-
-    pub fault-nine : room < size → 9 ≡ fault_by first form storeys members room
-    fault-nine h = rw (eq-eqb first 0 e, ← q, lt-leb size room h)

@@ -28,9 +28,6 @@ module _ (form k : ℕ) (ss : List Storey) (ms : List Member) where
   unfolding verdict_of first
   verdict-none = refl
 
-  pub verdict-all : (v : Verdict) (i : ℕ) → v ≡ verdict_of form k ss ms i → i ≤ length ss → length ss ≤ i → v ≡ verdict_of form k ss ms (length ss)
-  verdict-all v i e h g = let q : i ≡ length ss = omega arith in rw (← q) e
-
   verdict-more : (i : ℕ) → noted_by (verdict_of form k ss ms i) (i + 1) (storey_risky published_rules form k (storey_in ss i) (members_of ss ms i)) ≡ verdict_of form k ss ms (i + 1)
   unfolding verdict_of place_at risky_at
   verdict-more i = rw (first_more 0 (λ r. r) (place_at form k ss ms) i)

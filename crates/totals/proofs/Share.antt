@@ -26,18 +26,8 @@ module _ (share : Share) (σ c : ℕ) where
   unfolding allowed_share
   share-second h k = past _ _ _ σ h k ∙ alone _ σ
 
--- the products of the share test fit
-pub end-most : (e c : ℕ) → e ≤ 200_000 → c ≤ 200 → e * c ≤ 40_000_000
-end-most e c h g = mul-le-mul h g
-
 pub part-most : (s d : ℕ) → s ≤ 100 → d ≤ 40_000_000 → s * d ≤ 4_000_000_000
 part-most s d h g = mul-le-mul h g
-
-pub share-left : (w a : ℕ) → w ≤ 9_999_999 → a ≤ 8_000_000_000 → w * a ≤ 79_999_992_000_000_000
-share-left w a h g = mul-le-mul h g
-
-pub share-right : (p d : ℕ) → p ≤ 2_000_000_000 → d ≤ 40_000_000 → 100 * p * d ≤ 8_000_000_000_000_000_000
-share-right p d h g = mul-le-mul (mul-le-mul_left 100 h) g
 
 -- two tests that hold together
 same_test : (a b c d : ℕ) → (a < b → c < d) → (c < d → a < b) → ltb a b ≡ ltb c d

@@ -1,12 +1,12 @@
 -- The writing call: its refusals in their order, the file's length, and the buffer afterwards.
-use Prim.Native.Nat.{ℕ, ◌≤◌, ◌<◌}
+use Prim.Native.Nat.{ℕ, ◌≤◌}
 use native.Mathlib.Omega.{arith}
 use mathlib.Core.Bool.{Bool, true, false}
 use mathlib.Core.List.{List, [], ◌∷◌}
 use mathlib.Core.Path.{◌≡◌, refl, ap, sym, ◌∙◌}
 use lib.Dec.{leb, eqb}
 use lib.ListN.{length, length-append}
-use borrow.Author.Tests.{eq-eqb, ne_eqb, le-leb, lt-leb, eqb-true, leb-true}
+use borrow.Author.Tests.{eq-eqb, ne_eqb, le-leb, eqb-true, leb-true}
 use Rattle.format.specs.Lines.{line_size}
 use Rattle.records.specs.Records.{header_values, survey_of}
 use Rattle.records.specs.declared.Header.{Header}
@@ -31,14 +31,8 @@ use Rattle.writing.proofs.Storeys.{length-storeys}
 
 -- ---- the refusal by the rows' numbers
 module _ (fault form storeys members room : ℕ) where
-  pub fault-kept : (fault ≡ 0 → ⊥) → fault ≡ file_fault_by fault form storeys members room
-  fault-kept h = rw (ne_eqb fault 0 h)
-
   pub fault-none : fault ≡ 0 → file_size form storeys members ≤ room → 0 ≡ file_fault_by fault form storeys members room
   fault-none e h = rw (eq-eqb fault 0 e, le-leb (file_size form storeys members) room h)
-
-  pub fault-eleven : fault ≡ 0 → room < file_size form storeys members → 11 ≡ file_fault_by fault form storeys members room
-  fault-eleven e h = rw (eq-eqb fault 0 e, lt-leb (file_size form storeys members) room h)
 
 -- ---- the file's length
 length-file : (h : Header) (ss : List Storey) (ms : List Member) → records_fault (survey_of h ss ms) ≡ 0 → length (file_text (survey_of h ss ms)) ≡ file_size h.form (length ss) (length ms)

@@ -1,4 +1,3 @@
-use Prim.Native.Nat.{◌-◌}
 use Rattle.handed.proofs.Values.{copied_none}
 use Rattle.handed.proofs.values_of.Goals as goal
 

@@ -1,6 +1,5 @@
-use Prim.Native.Nat.{◌<◌, ◌-◌}
+use Prim.Native.Nat.{◌<◌}
 use Rattle.records.specs.Records.{fields, in_range}
-use mathlib.Core.Bool.{true}
 use mathlib.Core.Path.{◌∙◌, sym}
 use native.Mathlib.Omega.{arith}
 use Rattle.records.proofs.Allowing.{fields-most}

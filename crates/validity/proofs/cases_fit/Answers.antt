@@ -1,4 +1,4 @@
-use mathlib.Core.Bool.{Bool, true, false, ◌&&◌}
+use mathlib.Core.Bool.{Bool, ◌&&◌}
 use mathlib.Core.Path.{refl, ◌∙◌, sym, ap}
 use Rattle.records.specs.Records.{case_fits}
 use Rattle.records.proofs.Lines.{first_fits, all_fit}

@@ -1,4 +1,3 @@
-use Prim.Native.Nat.{◌-◌}
 use native.Mathlib.Omega.{arith}
 use Rattle.records.proofs.Allowing.{fields-most}
 use Rattle.format.proofs.Fields.{looks-first, stops, looks_on}

@@ -1,4 +1,3 @@
-use Prim.Native.Nat.{◌-◌}
 use native.Mathlib.Omega.{arith}
 use Rattle.format.proofs.Shape.{end-here, end_later, end_none}
 use Rattle.format.proofs.lines.line_end.Goals as goal

@@ -1,4 +1,3 @@
-use Prim.Native.Nat.{◌-◌}
 use mathlib.Core.Path.{◌∙◌}
 use Rattle.format.proofs.Columns.{column-units, column-sign, column-blank, column-tenth}
 use Rattle.format.proofs.spelling.column_of.Goals as goal

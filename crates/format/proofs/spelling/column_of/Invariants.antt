@@ -1,4 +1,3 @@
-use Prim.Native.Nat.{◌-◌}
 use mathlib.Core.Path.{◌≡◌}
 use Rattle.format.specs.Spelling.{column}
 use Rattle.format.proofs.spelling.column_of.Given as goal

@@ -1,6 +1,6 @@
 use native.Mathlib.Omega.{arith}
 use Rattle.members.proofs.Arithmetic.{product}
-use Prim.Native.Nat.{◌-◌, ◌*◌}
+use Prim.Native.Nat.{◌*◌}
 use mathlib.Core.Path.{◌∙◌}
 use Rattle.members.proofs.Rounding.{below-cap}
 use Rattle.members.proofs.limits.round_rotation.Goals as goal

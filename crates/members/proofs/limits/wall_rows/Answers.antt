@@ -1,4 +1,3 @@
-use Prim.Native.Nat.{◌-◌}
 use mathlib.Core.Path.{ap, ◌∙◌}
 use Rattle.members.specs.Limits.{gap, per, wall_rows}
 use Rattle.members.proofs.limits.wall_rows.Goals as goal

@@ -1,5 +1,5 @@
 use Rattle.hazard.specs.Refusals.{site_fault}
-use Rattle.hazard.proofs.ranges.site_fault.Goals as goal
+use Rattle.hazard.proofs.refusals.site_fault.Goals as goal
 
 pub returns : goal.returns
 unfolding site_fault

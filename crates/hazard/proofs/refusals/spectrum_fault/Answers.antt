@@ -1,5 +1,5 @@
 use Rattle.hazard.specs.Refusals.{spectrum_fault}
-use Rattle.hazard.proofs.ranges.spectrum_fault.Goals as goal
+use Rattle.hazard.proofs.refusals.spectrum_fault.Goals as goal
 
 pub returns : goal.returns
 unfolding spectrum_fault
