@@ -1,10 +1,9 @@
 -- Numbers put from the front of others.
-use Prim.Native.Nat.{ℕ, ◌+◌, ◌≤◌, ◌<◌}
+use Prim.Native.Nat.{ℕ, ◌+◌, ◌≤◌}
 use native.Mathlib.Omega.{arith}
 use mathlib.Core.List.{List, ◌∷◌, ◌++◌}
 use mathlib.Core.Path.{◌≡◌, sym, ◌∙◌}
 use lib.ListN.{length, set}
-use borrow.Author.Tests.{lt-leb}
 use Rattle.columns.specs.Line.{at_front}
 use Rattle.columns.specs.Bytes.{stamped}
 use Rattle.columns.proofs.Stamps.{stamped-byte, stamped-both, put-fits, put_front}

@@ -2,7 +2,6 @@
 -- second not.
 use Rattle.std.specs.Prelude.{ℕ, ◌+◌, List, [], ◌∷◌, ◌++◌, map, ◌≡◌, take}
 use Rattle.records.specs.Records.{zero_force, no_case}
-use Rattle.members.specs.Finding.{hoops}
 use Rattle.storeys.specs.Storey.{published_rules}
 use Rattle.storeys.specs.Building.{building_answer_by, returned_building}
 use Rattle.comparison.specs.Demand3.{Survey}

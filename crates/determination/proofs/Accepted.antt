@@ -1,5 +1,5 @@
 -- An accepted file is judged and printed.
-use mathlib.Core.Path.{◌≡◌, sym, ◌∙◌}
+use mathlib.Core.Path.{sym, ◌∙◌}
 use borrow.Author.Tests.{eq-eqb}
 use Rattle.reading.proofs.Passed.{accepted-pass}
 use Rattle.storeys.specs.Building.{building_answer_by}

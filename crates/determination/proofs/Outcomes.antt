@@ -5,7 +5,7 @@ use mathlib.Core.Bool.{Bool, true, false}
 use mathlib.Core.List.{List, []}
 use mathlib.Core.Path.{◌≡◌, refl, sym}
 use lib.Dec.{leb, eqb}
-use lib.ListN.{length, take, drop, length-append, length-take}
+use lib.ListN.{length, take, drop, length-append}
 use lib.Seq.{take-append_seam}
 use borrow.Author.Tests.{eqb-true, le-leb, lt-leb}
 use Rattle.records.specs.declared.Header.{Header}
@@ -35,7 +35,6 @@ members_in (refused n line) = []
 
 -- the rows that are handed on are those that were filled
 module _ (o : Outcome) (t : Told) (e : t ≡ told o) where
-
   members-held : (p : Outcome) (before : List Member) → members_told (told p) ≤ length (members_after_call p before)
   members-held (accepted a) before = omega (arith, length-append a.members (drop (length a.members) before))
   members-held (refused n line) before = omega arith

@@ -1,7 +1,7 @@
 -- What a call gives and leaves in `out`, with room there and without.
 use Prim.Native.Nat.{ℕ, ◌≤◌, ◌<◌}
 use mathlib.Core.List.{List}
-use mathlib.Core.Path.{◌≡◌, sym, ap, ◌∙◌}
+use mathlib.Core.Path.{◌≡◌, sym, ◌∙◌}
 use lib.ListN.{length}
 use borrow.Author.Tests.{le-leb, lt-leb}
 use Rattle.members.specs.Finding.{Returned}
@@ -19,6 +19,3 @@ no_room count out a b h = rw (lt-leb count (length out) h)
 module _ (count : ℕ) (r : Returned) (before : List ℕ) where
   pub put : {n : ℕ} {after : List ℕ} → count ≤ length before → n ≡ packed r → after ≡ at_front r.values before → (n ≡ given count r before) × (after ≡ out_after_call count r before)
   put h e p = (e ∙ sym (with-room count before (packed r) short h), p ∙ sym (with-room count before (at_front r.values before) before h))
-
-  -- and in what else was lent
-  module _ {A : Type 0} (x y : A) where

@@ -1,11 +1,11 @@
 -- The lines of one record, and the refusals of the report call.
-use Prim.Native.Nat.{ℕ, ◌+◌, ◌*◌, ◌≤◌, ◌<◌}
+use Prim.Native.Nat.{ℕ, ◌+◌, ◌*◌, ◌≤◌}
 use native.Mathlib.Omega.{arith}
-use mathlib.Core.Bool.{Bool, true, false}
+use mathlib.Core.Bool.{Bool}
 use mathlib.Core.List.{List, [], ◌∷◌}
 use mathlib.Core.Path.{◌≡◌, refl, ap, ◌∙◌}
 use lib.ListN.{length}
-use borrow.Author.Tests.{eq-eqb, ne_eqb, le-leb, lt-leb}
+use borrow.Author.Tests.{eq-eqb, ne_eqb, le-leb}
 use Rattle.records.specs.Notation.{pick}
 use Rattle.records.specs.Records.{in_cases, case_count}
 use Rattle.members.specs.Class.{code}
@@ -69,7 +69,6 @@ module _ (form storeys members n size : ℕ) (e : n ≡ case_count form) (g : si
   sheet-size-is = rw (e, g)
 
 module _ (first form storeys members room : ℕ) where
-
   module _ (e : first ≡ 0) (size : ℕ) (q : size ≡ sheet_size form storeys members) where
     pub fault-none : size ≤ room → 0 ≡ fault_by first form storeys members room
     fault-none h = rw (eq-eqb first 0 e, ← q, le-leb size room h)

@@ -1,22 +1,19 @@
 -- The loops over a storey's rows: what holds after j of them, one turn, and the end.
-use Prim.Native.Nat.{ℕ, zero, suc, ◌+◌, ◌*◌, ◌-◌, ◌≤◌, ◌<◌}
+use Prim.Native.Nat.{ℕ, zero, suc, ◌+◌, ◌*◌, ◌≤◌, ◌<◌}
 use native.Mathlib.Omega.{arith}
 use native.Mathlib.Numerals.{add-one}
-use mathlib.Core.Bool.{Bool, true, false, ◌&&◌, ◌||◌, or-false, or_assoc}
+use mathlib.Core.Bool.{Bool, true, false, ◌||◌, or-false, or_assoc}
 use mathlib.Core.List.{List, [], ◌∷◌}
 use mathlib.Core.Path.{◌≡◌, refl, ap, sym, ◌∙◌}
-use lib.Dec.{leb, eqb}
+use lib.Dec.{eqb}
 use lib.ListN.{length, drop, get_or, drop_of_length-le}
 use lib.Seq.{drop-cons}
-use borrow.Author.Tests.{leb-true}
 use Rattle.records.specs.Notation.{pick, total, any_of}
 use Rattle.records.specs.Records.{case_count, case_of, in_case, member_case_fault}
 use Rattle.records.specs.Valid.{Valid}
 use Rattle.records.specs.declared.Member.{Member}
-use Rattle.records.specs.declared.MemberCase.{MemberCase}
 use Rattle.records.proofs.Validity.{valid, case-good}
 use Rattle.members.specs.Units.{ratio_cap}
-use Rattle.members.specs.Class.{is_wall}
 use Rattle.members.specs.Finding.{knowledge, flag}
 use Rattle.storeys.specs.Storey.{published_rules, member_axial, axial_total_of, over, shear_if_over, over_shear_of, some_over, damaged}
 use Rattle.checks.specs.Rows.{member_in}
@@ -24,7 +21,7 @@ use Rattle.checks.proofs.Refusals.{one}
 use Rattle.checks.proofs.RowLaws.{row-good as good-row}
 use Rattle.records.specs.Blank.{no_member}
 use Rattle.totals.specs.declared.Tally.{Tally}
-use Rattle.totals.specs.Totals.{shear_most, total_most, weight_of, no_tally, added_wall, met_by}
+use Rattle.totals.specs.Totals.{weight_of, no_tally, added_wall, met_by}
 use Rattle.storeys.specs.Tally.{with_member, tally_of, Rows, AddsUp, walls_from, walls_suffice_of}
 use Rattle.storeys.proofs.Rows.{nd-most}
 

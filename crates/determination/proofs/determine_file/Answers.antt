@@ -1,7 +1,7 @@
 use Rattle.reading.specs.Survey.{survey}
 use Rattle.reading.specs.Answer.{tells}
 use Rattle.determination.specs.Determination.{storey_rows, member_rows}
-use Rattle.determination.proofs.Outcomes.{Ends, storeys-within, members-within, storeys-taken, members-taken, ends}
+use Rattle.determination.proofs.Outcomes.{Ends, storeys-taken, members-taken, ends}
 use Rattle.determination.proofs.determine_file.Goals as goal
 
 pub returns-clause-value : goal.returns-clause-value

@@ -1,11 +1,10 @@
-use Rattle.std.proofs.Common.{ap, ◌∙◌, ◌≤◌, ◌+◌, ◌-◌, ◌||◌, length, take, drop, arith, rules}
+use Rattle.std.proofs.Common.{ap, ◌∙◌, ◌+◌, ◌-◌, ◌||◌, take, drop, rules}
 use Rattle.std.proofs.lemmas.List.{get_or_default}
 use Rattle.records.specs.Blank.{no_storey}
 use Rattle.storeys.specs.Storey.{published_rules, storey_risky}
 use Rattle.columns.specs.Bytes.{stamped}
 use Rattle.report.specs.Sheet.{storey_lines}
 use Rattle.records.specs.declared.Storey.{Storey}
-use Rattle.checks.proofs.RowLaws.{members-most}
 use Rattle.checks.proofs.RowLoops.{part-is}
 use Rattle.report.proofs.Survey.{part-clear, part-size, part-ends, passed_none, part-fits, passed-next, end-place, end-risky, end-lines}
 use Rattle.report.proofs.sheet.put_storeys.Goals as goal

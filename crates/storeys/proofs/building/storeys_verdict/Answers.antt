@@ -1,9 +1,9 @@
-use Rattle.std.proofs.Common.{ap, ◌∙◌, ◌≡◌, ◌+◌, ◌≤◌, length, arith, rules}
+use Rattle.std.proofs.Common.{ap, ◌∙◌, arith, rules}
 use Rattle.std.proofs.lemmas.List.{get_or_default}
 use Rattle.records.specs.Blank.{no_storey}
 use Rattle.records.specs.declared.Storey.{Storey}
 use Rattle.checks.proofs.RowLoops.{none_before, next-before, next-within}
-use Rattle.storeys.proofs.BuildingRows.{verdict-none, verdict-all, found-due, verdict-next}
+use Rattle.storeys.proofs.BuildingRows.{verdict-none, found-due, verdict-next}
 use Rattle.storeys.proofs.building.storeys_verdict.Goals as goal
 
 pub loop-i-init : goal.loop-i-init
