@@ -2,7 +2,7 @@
 """Writes the place and the fact that are refused first into the first line of each must-fail edit, by what `rt ci` or `rt must-fail` printed of it.
 Run at the top of the repository: tools/edit_facts.py [--dry] LOG..
 
-The claim and what is refused stay (of a line that named several facts, the words after the last). It lists the edits whose place it changed, to be
+The claim and what is refused stay, and a second place and fact where the first ones stay (of other lines that named several facts, the words after the last). It lists the edits whose place it changed, to be
 read again; and those that it leaves as they are: still proved, bad, not tried, refused only for a missing name or at a place that is not told."""
 import importlib.machinery
 import importlib.util
@@ -23,7 +23,7 @@ def old_words(first):
     if not line:
         return None
     parts = [it.split(", ", 2) for it in line["refused"].split(", and ")]
-    return line["claim"], {place for it in parts for place in it[0].split(" and ")}, parts[-1][-1]
+    return line["claim"], {place for it in parts for place in it[0].split(" and ")}, parts[-1][-1], parts
 
 
 def main(words):
@@ -48,13 +48,14 @@ def main(words):
             left += 1
             print(f"LEFT {name}/{label}: {why}")
             continue
-        claim, places, what = old
+        claim, places, what, parts = old
         place, fact, whole = told
         if place not in places:
             print(f"ANOTHER PLACE {name}/{label}: {', '.join(sorted(places))} is now {place}, {fact}: {claim}")
         if not whole:
             print(f"CUT OFF {name}/{label}: {fact}")
-        line = f"# {claim} Refused: {place}, {fact}, {what}."
+        more = f"and {parts[1][0]}, {parts[1][1]}, " if len(parts) == 2 and parts[0][:2] == [place, fact] else ""
+        line = f"# {claim} Refused: {place}, {fact}, {more}{what}."
         if re.sub(r"\s+", " ", line) == first:
             same += 1
         else:
