@@ -2,7 +2,7 @@
 """Writes the place and the fact that are refused first into the first line of each must-fail edit, by what `rt ci` or `rt must-fail` printed of it.
 Run at the top of the repository: tools/edit_facts.py [--dry] LOG..
 
-The claim and what is refused stay, and a second place and fact where the first ones stay (of other lines that named several facts, the words after the last). It lists the edits whose place it changed, to be
+The claim and what is refused stay, and a second place and fact where the first ones stay. It lists the edits whose place it changed, to be
 read again; and those that it leaves as they are: still proved, bad, not tried, refused only for a missing name or at a place that is not told."""
 import importlib.machinery
 import importlib.util
@@ -17,13 +17,10 @@ sys.dont_write_bytecode = True
 LOADER.exec_module(WORDS)
 
 
-def old_words(first):
-    """Claim, places and what is refused of a first line of either form."""
-    line = WORDS.FIRST.fullmatch(first)
-    if not line:
-        return None
-    parts = [it.split(", ", 2) for it in line["refused"].split(", and ")]
-    return line["claim"], {place for it in parts for place in it[0].split(" and ")}, parts[-1][-1], parts
+def words_of(first):
+    """Claim, places and facts, and what is refused, of a first line."""
+    words = WORDS.named(first)
+    return words and (WORDS.FIRST.fullmatch(first)["claim"], *words)
 
 
 def main(words):
@@ -34,7 +31,7 @@ def main(words):
         if not edit.is_file():
             continue
         first, rest = edit.read_text().split("\n", 1)
-        old, why, told = old_words(first), None, None
+        old, why, told = words_of(first), None, None
         if not said.startswith(WORDS.REFUSED):
             why = said[:200]
         elif said.startswith(WORDS.REFUSED + WORDS.TAKEN_AWAY):
@@ -48,13 +45,13 @@ def main(words):
             left += 1
             print(f"LEFT {name}/{label}: {why}")
             continue
-        claim, places, what, parts = old
+        claim, pairs, what = old
         place, fact, whole = told
-        if place not in places:
-            print(f"ANOTHER PLACE {name}/{label}: {', '.join(sorted(places))} is now {place}, {fact}: {claim}")
+        if place != pairs[0][0]:
+            print(f"ANOTHER PLACE {name}/{label}: {pairs[0][0]} is now {place}, {fact}: {claim}")
         if not whole:
             print(f"CUT OFF {name}/{label}: {fact}")
-        more = f"and {parts[1][0]}, {parts[1][1]}, " if len(parts) == 2 and parts[0][:2] == [place, fact] else ""
+        more = f"and {', '.join(pairs[1])}, " if len(pairs) == 2 and pairs[0] == [place, fact] else ""
         line = f"# {claim} Refused: {place}, {fact}, {more}{what}."
         if re.sub(r"\s+", " ", line) == first:
             same += 1

@@ -325,6 +325,13 @@ fn standard_output_full() {
     assert_eq!(printed(command.stdin(walls()).stdout(full)), silent_but(OUTPUT_FAILURE));
 }
 
+#[test]
+fn standard_output_that_nobody_reads() {
+    let (reader, writer) = std::io::pipe().expect("a pipe");
+    drop(reader);
+    assert_eq!(printed(Command::new(program()).stdin(walls()).stdout(writer)), silent_but(OUTPUT_FAILURE));
+}
+
 /// A file that may grow to one block only takes the front of the sheet, and the next write fails.
 #[test]
 fn standard_output_cut_off() {
