@@ -1,3 +1,4 @@
 pub mod Refusals
 pub mod RowLaws
 pub mod RowLoops
+pub mod RowsInTurn

@@ -1,3 +1,3 @@
 pub mod Stamps
 pub mod Digits
-pub mod Fields
+pub mod Written

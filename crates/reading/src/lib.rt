@@ -1,5 +1,6 @@
 // Reading a survey: the call that reads a file into lent rows.
 #![tactic(auto)]
 
+mod line;
 pub mod rows;
 pub mod survey;

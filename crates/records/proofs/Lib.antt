@@ -2,6 +2,8 @@ pub mod Below
 pub mod Firsts
 pub mod Allowing
 pub mod Cases
+pub mod Refusals
+pub mod Forms
 pub mod Validity
 pub mod Lines
-pub mod Structs
+pub mod Made

@@ -1,6 +1,7 @@
+pub mod Rows
 pub mod Storey
 pub mod Building
 pub mod Tally
-pub mod Verdict
+pub mod FirstRisky
 pub mod Shears
 pub mod Cases

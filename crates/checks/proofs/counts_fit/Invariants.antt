@@ -1,9 +1,6 @@
-use Rattle.std.proofs.Common.{◌≡◌, ◌+◌, ◌-◌, ◌≤◌, length}
-use Rattle.checks.specs.Rows.{members_before}
+use Rattle.std.proofs.Common.{◌≡◌, ◌+◌, drop}
+use Rattle.checks.proofs.RowLoops.{counts}
 use Rattle.checks.proofs.counts_fit.Given as goal
 
-abbrev pub invariant-loop-i : goal.invariant-loop-i
-invariant-loop-i l = (l.i ≤ length l.storeys) × (l.left + members_before l.storeys l.i ≡ l.rows)
-
-abbrev pub decreases-loop-i : goal.decreases-loop-i
-decreases-loop-i l = length l.storeys - l.i
+abbrev pub invariant-loop-s : goal.invariant-loop-s
+invariant-loop-s l = l.left + counts l.storeys ≡ l.rows + counts (drop l.s-index l.storeys)

@@ -1,19 +1,13 @@
-use mathlib.Core.Path.{sym, ◌∙◌}
-use native.Mathlib.Omega.{arith}
-use Rattle.format.proofs.Columns.{same_none, same_differs, same_step}
+use Rattle.std.proofs.Common.{◌≡◌, ◌-◌, ◌∙◌, sym, ap, rules, tests, eqb}
+use lib.Pointwise.{pointwise}
+use Rattle.records.proofs.Made.{made_list}
+use Rattle.format.specs.Spelling.{column, spelled}
+use Rattle.format.proofs.Columns.{same-pointwise}
 use Rattle.format.proofs.spelling.spells.Goals as goal
 
-pub returns-then-s-p : goal.returns-then-s-p
-returns-then-s-p c =
-    let l = c.loop-left in
-    let a = c.args in
-    same_differs a.s.now l.p l.left a.sign a.n _ (omega arith) (omega arith) (λ e. c.if-s-p.true (e ∙ sym c.column_of.ensures)) l.invariant.1
-
-pub loop-left-preserved : goal.loop-left-preserved
-loop-left-preserved c =
-    let l = c.loop-left in
-    let a = c.args in
-    (omega arith, same_step a.s.now l.p l.left a.sign a.n _ (omega arith) (omega arith) (c.if-s-p.false ∙ c.column_of.ensures) l.invariant.1)
-
 pub returns : goal.returns
-returns c = same_none _ _ _ _ c.loop-left-test.false ∙ c.loop-left.invariant.1
+unfolding spelled
+returns c =
+    let a = c.args in
+    let e : c.from_fn.result ≡ spelled 8 a.sign a.n = made_list _ _ (λ i. column a.sign a.n (7 - i)) c.from_fn.result 8 c.from_fn.ensures.items (λ x y q w. search (rules, tests)) in
+    c.eq.ensures ∙ ap (pointwise eqb a.columns.now) e ∙ sym (same-pointwise a.columns.now (spelled 8 a.sign a.n))

@@ -1,0 +1,6 @@
+use Rattle.records.specs.Forms.{form_number}
+use Rattle.reading.proofs.Cases.{Cased}
+use Rattle.reading.proofs.survey.File.check_cases.Given as goal
+
+abbrev pub invariant-loop-c : goal.invariant-loop-c
+invariant-loop-c l = Cased (form_number l.self.form) l.self.bytes.now l.at l.initial.line l.c
