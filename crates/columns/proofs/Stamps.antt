@@ -1,19 +1,19 @@
 -- Laws of bytes put in the place of others, and of the lines' lengths.
-use Prim.Native.Nat.{ℕ, suc, ◌+◌, ◌*◌, ◌≤◌, ◌<◌}
+use Prim.Native.Nat.{ℕ, suc, ◌+◌, ◌*◌, ◌≤◌}
 use native.Mathlib.Omega.{arith}
 use native.Mathlib.Numerals.{add-one}
 use mathlib.Core.Bool.{Bool, true, false}
 use mathlib.Core.List.{List, [], ◌∷◌, ◌++◌, append_assoc}
 use mathlib.Core.Path.{◌≡◌, refl, ap, sym, ◌∙◌}
 use lib.Dec.{leb}
-use lib.ListN.{length, take, drop, set, get_or, length-set, length-append, drop_of_length-le}
-use lib.Seq.{drop-cons, drop-drop, take-set-le, drop-set-lt, sets, sets-eq}
+use lib.ListN.{length, take, drop, set, length-set, length-append}
+use lib.Seq.{drop-drop, take-set-le, drop-set-lt, sets, sets-eq}
 use borrow.Author.Tests.{le-leb, leb-true}
 use borrow.Rule.Slice.PartMut.{put_mid}
 use Rattle.records.specs.Notation.{pick}
 use Rattle.format.specs.Spelling.{spelled}
 use Rattle.format.proofs.Typed.{length-spelled}
-use Rattle.columns.specs.Line.{printed_numbers, line, at_front, put_length}
+use Rattle.columns.specs.Line.{printed_numbers, line, at_front}
 use Rattle.columns.specs.Bytes.{stamped, put_at, place_after}
 
 pub length-stamped : (xs bytes : List ℕ) (at : ℕ) → length (stamped bytes at xs) ≡ length bytes

@@ -1,41 +1,17 @@
 // A writer of columns: it puts text and numbers into lent bytes, one after another.
-ghost use Rattle.std.specs.Prelude.{◌≡◌, ◌+◌, ◌*◌, ◌≤◌, leb, length, replicate};
+ghost use Rattle.std.specs.Prelude.{◌≡◌, ◌+◌, ◌*◌, ◌≤◌, leb, length};
 ghost use Rattle.format.specs.Spelling.{spelled};
 ghost use Rattle.columns.specs.Line.{line, printed_numbers};
 ghost use Rattle.columns.specs.Bytes.{KeptOutside};
 ghost use Rattle.columns.specs.Writer.{HasRoom, Written, WrittenIfRoom};
+
+use format::spelling::put_number;
 
 // The lent bytes, and the place after what was put.
 #[derive(Drop)]
 pub struct ColumnWriter<'a> {
     bytes: &'a mut [u8],
     at: usize,
-}
-
-// The digits of a number over the last of some blank columns, its sign before them.
-fn put_digits(columns: &mut [u8], sign: u8, n: u64)
-    requires { columns.old ≡ replicate (length columns.old) 32 }
-    ensures { columns.new ≡ spelled (length columns.old) sign n }
-{
-    let mut rest = n;
-    for i in (0..columns.len()).rev() {
-        columns[i] = b'0' + (rest % 10) as u8;
-        if rest < 10 {
-            if 0 < i {
-                columns[i - 1] = sign;
-            }
-            return;
-        }
-        rest /= 10;
-    }
-}
-
-// A number in some columns: blanks, its sign directly before its digits.
-fn put_number(columns: &mut [u8], sign: u8, n: u64)
-    ensures { columns.new ≡ spelled (length columns.old) sign n }
-{
-    columns.fill(b' ');
-    put_digits(columns, sign, n);
 }
 
 impl<'a> ColumnWriter<'a> {

@@ -1,40 +1,19 @@
 -- Laws of the spelling of a number, column by column.
 use Prim.Native.Nat.{ℕ, zero, suc, ◌+◌, ◌-◌, ◌*◌, ◌/◌, ◌%◌, ◌^◌, ◌≤◌, ◌<◌}
 use native.Mathlib.Omega.{arith}
-use native.Mathlib.Nat.{div-lt_iff_lt-mul, not-suc-le-zero, pow-suc, pow-le-pow_right}
+use native.Mathlib.Nat.{div-lt_iff_lt-mul, pow-suc, pow-le-pow_right}
 use native.Mathlib.Numerals.{add-one}
 use mathlib.Core.Bool.{Bool, true, false, ◌&&◌}
 use mathlib.Core.List.{List, [], ◌∷◌}
 use mathlib.Core.Path.{◌≡◌, refl, ap}
-use lib.Dec.{leb, ltb, eqb, eqb-suc-zero}
+use lib.Dec.{leb, ltb, eqb}
 use lib.ListN.{length, drop, get_or, drop_of_length-le}
 use lib.Pointwise.{pointwise}
 use lib.Seq.{drop-cons}
-use borrow.Author.Tests.{eqb-true, ltb-true, lt-ltb, le-ltb, leb-true}
+use borrow.Author.Tests.{eqb-true, ltb-true, leb-true}
 use Rattle.records.specs.Notation.{pick}
 use Rattle.format.specs.Spelling.{column, same, pushed, value}
 use Rattle.records.proofs.Below.{and_left, and_right}
-
--- ---- a column
-pub column-units : (s q k : ℕ) → k ≤ 0 → 48 + q % 10 ≡ column s q k
-unfolding column
-column-units s q zero h = refl
-column-units s q (suc k) h = absurd (not-suc-le-zero h)
-
-pub column-sign : (s q k : ℕ) → q < 10 → k ≡ 1 → s ≡ column s q k
-unfolding column
-column-sign s q k h e = rw e (simp (lt-ltb q 10 h))
-
-pub column-blank : (s q k : ℕ) → q < 10 → 0 < k → (k ≡ 1 → ⊥) → 32 ≡ column s q k
-unfolding column
-column-blank s q zero h p e = absurd (not-suc-le-zero p)
-column-blank s q (suc zero) h p e = absurd (e refl)
-column-blank s q (suc (suc k)) h p e = simp (lt-ltb q 10 h, eqb-suc-zero)
-
-pub column-tenth : (s q k : ℕ) → 10 ≤ q → 0 < k → column s (q / 10) (k - 1) ≡ column s q k
-unfolding column
-column-tenth s q zero h p = absurd (not-suc-le-zero p)
-column-tenth s q (suc k) h p = let e : suc k - 1 ≡ k = omega arith in simp (le-ltb q 10 h, e)
 
 -- ---- the number of some columns
 pub value-more : (l : List ℕ) (v j : ℕ) → j < length l → value v (drop j l) ≡ value (pushed v (get_or l j 0)) (drop (j + 1) l)
@@ -55,12 +34,12 @@ pushed-small v b i h =
     digit-small (leb 48 b && leb b 57) v (b - 48) i h (λ e. omega (arith, leb-true b 57 (and_right (leb 48 b) (leb b 57) e)))
 
 -- ---- a comparison with a spelling
-pub same-pointwise : (xs ys : List ℕ) → same xs ys ≡ pointwise eqb xs ys
+pub same_pointwise : (xs ys : List ℕ) → same xs ys ≡ pointwise eqb xs ys
 unfolding same
-same-pointwise [] [] = refl
-same-pointwise [] (y ∷ ys) = refl
-same-pointwise (x ∷ xs) [] = refl
-same-pointwise (x ∷ xs) (y ∷ ys) = ap (λ b. eqb x y && b) (same-pointwise xs ys)
+same_pointwise [] [] = refl
+same_pointwise [] (y ∷ ys) = refl
+same_pointwise (x ∷ xs) [] = refl
+same_pointwise (x ∷ xs) (y ∷ ys) = ap (λ b. eqb x y && b) (same_pointwise xs ys)
 
 pub same-eq : (xs ys : List ℕ) → same xs ys ≡ true → xs ≡ ys
 unfolding same

@@ -5,10 +5,11 @@ use native.Mathlib.Nat.{not-suc-le-zero}
 use mathlib.Core.Bool.{Bool, true, false}
 use mathlib.Core.List.{List}
 use mathlib.Core.Path.{◌≡◌, refl, ap, sym, ◌∙◌}
+use lib.Dec.{ltb}
 use lib.ListN.{length, get_or, set, length-set}
 use lib.Seq.{get_or-set_same, get_or-set_other}
 use borrow.Author.Count.{below_more}
-use borrow.Author.Tests.{le-leb}
+use borrow.Author.Tests.{le-leb, lt-ltb}
 use Rattle.std.specs.Prelude.{Option, Some, None, unwrap_or, Result, Ok, Err, ok_or}
 use Rattle.records.specs.Notation.{pick, every_below, first}
 use Rattle.records.specs.Records.{Allowed, allows, never, ranges, fields, in_range}
@@ -70,6 +71,10 @@ module _ (t : Kind) (s : List ℕ) (at : ℕ) where
               below_more _ j (λ k l. get_or-set_other values j k v 0 (λ p. let z : ⊥ = omega arith in absurd z) ∙ so.held k l)
               (get_or-set_same values j v 0 (omega (arith, so.size)) ∙ sym (ap (λ (o : Option ℕ). unwrap_or o 0) o));
         }
+
+-- each line has a third field
+pub third_value : (t : Kind) (s : List ℕ) (at : ℕ) → unwrap_or (pick (ltb 2 (fields t)) (field_at t s at 2) None) 0 ≡ value_at t s at 2
+third_value t s at = rw (lt-ltb 2 (fields t) (three-fields t))
 
 -- ---- the first refusal among the fields
 pub record Looked (t : Kind) (s : List ℕ) (at j : ℕ) : Type 0 where

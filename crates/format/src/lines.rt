@@ -1,14 +1,11 @@
 // The lines of a survey file.
-ghost use Rattle.std.specs.Prelude.{◌≡◌, ◌+◌, ◌*◌, ◌≤◌, length, drop, IfOk};
+ghost use Rattle.std.specs.Prelude.{◌≡◌, drop, is_some, IfSome, IfOk};
 ghost use Rattle.records.specs.Notation.{pick};
 ghost use Rattle.records.specs.Forms.{form_number};
-ghost use Rattle.records.specs.Records.{fields};
 ghost use Rattle.records.specs.Refusals.{fault_of};
-ghost use Rattle.format.specs.Lines.{tag_byte, line_size, case_lines, member_size, line_end, shaped, is_force, value_at, fields_fault, framed, holds_fields, written_fault, number_held, Holds};
+ghost use Rattle.format.specs.Lines.{tag_byte, line_size, case_lines, member_size, line_end, shaped, is_force, fields_fault, framed, holds_fields, written_fault, number_held, Holds};
 
-use crate::cursor::Cursor;
-use crate::line_fields::Fields;
-use ranges::range_allows;
+use crate::line_fields::HeldLine;
 use records::form::Form;
 use records::refusal::Refusal;
 use records::{CASES, FIELDS_MOST, Kind};
@@ -109,38 +106,17 @@ impl Line<'_> {
         last < rest.len() && rest[0] == tag_byte(self.kind) && rest[last] == b'\n'
     }
 
-    // The bytes hold its fields.
-    fn holds_fields(&self) -> bool
-        ensures { result ≡ holds_fields self.now.kind self.now.file.now self.now.at }
+    // The line, if the bytes hold its fields.
+    fn held(&self) -> Option<HeldLine<'_>>
+        ensures held { is_some result ≡ holds_fields self.now.kind self.now.file.now self.now.at }
+        ensures line { IfSome result (λ held. held.line ≡ self.now) }
     {
         let size = 1 + 8 * self.kind.field_count();
-        size <= self.file.len() && self.at <= self.file.len() - size
-    }
-
-    // Its fields, from the first on.
-    fn fields(&self) -> Fields<'_>
-        requires { self.now.at + 1 + 8 * fields self.now.kind ≤ length self.now.file.now }
-        ensures line { result.line ≡ self.now }
-        ensures first { result.j ≡ 0 }
-    {
-        Fields {
-            line: *self,
-            cursor: Cursor { at: self.at + 1 },
-            j: 0,
+        if size <= self.file.len() && self.at <= self.file.len() - size {
+            Some(HeldLine { line: *self })
+        } else {
+            None
         }
-    }
-
-    // The numbers of its fields, or the first refusal.
-    fn held_fields(&self) -> Result<[u64; FIELDS_MOST], Refusal>
-        requires { self.now.at + 1 + 8 * fields self.now.kind ≤ length self.now.file.now }
-        ensures fault { fault_of result ≡ written_fault self.now.kind self.now.file.now self.now.at }
-        ensures values { IfOk result (Holds self.now.kind self.now.file.now self.now.at) }
-    {
-        let mut values = [0; FIELDS_MOST];
-        for (j, field) in self.fields() {
-            values[j] = field?;
-        }
-        Ok(values)
     }
 
     // The numbers of its fields, in order; refused where the bytes end before them or one is not written as it must be.
@@ -148,54 +124,21 @@ impl Line<'_> {
         ensures fault { fault_of result ≡ pick (holds_fields self.now.kind self.now.file.now self.now.at) (written_fault self.now.kind self.now.file.now self.now.at) 1 }
         ensures values { IfOk result (Holds self.now.kind self.now.file.now self.now.at) }
     {
-        if self.holds_fields() {
-            self.held_fields()
-        } else {
-            Err(Refusal::Structure)
-        }
-    }
-
-    // The first refusal among its fields, of which the third holds `storeys`.
-    fn check_held_fields(&self, storeys: u64) -> Result<(), Refusal>
-        requires holds { self.now.at + 1 + 8 * fields self.now.kind ≤ length self.now.file.now }
-        requires third { storeys ≡ value_at self.now.kind self.now.file.now self.now.at 2 }
-        ensures { fault_of result ≡ fields_fault self.now.kind self.now.file.now self.now.at }
-    {
-        for (j, field) in self.fields() {
-            if !range_allows(self.kind, j, field?, storeys) {
-                return Err(Refusal::OutOfRange);
-            }
-        }
-        Ok(())
+        self.held().ok_or(Refusal::Structure)?.numbers()
     }
 
     // The number that field j holds, counted from 0: none where the bytes end before the line's fields, where it has no such field, or where the field is not written
     // as it must be.
-    #[tactic(auto, unfolding(crate::specs::Lines::field_at))]
     pub fn number(&self, j: usize) -> Option<u64>
         ensures { result ≡ number_held self.now.kind self.now.file.now self.now.at j }
     {
-        if !self.holds_fields() {
-            return None;
-        }
-        if self.kind.field_count() <= j {
-            return None;
-        }
-        let cursor = Cursor {
-            at: self.at + 1 + 8 * j,
-        };
-        let (field, _) = cursor.field(self.file, is_force(self.kind, j));
-        field.ok()
+        self.held()?.number(j)
     }
 
     // The first refusal among its fields, or that the bytes end before them.
     pub fn check_fields(&self) -> Result<(), Refusal>
         ensures { fault_of result ≡ pick (holds_fields self.now.kind self.now.file.now self.now.at) (fields_fault self.now.kind self.now.file.now self.now.at) 1 }
     {
-        if !self.holds_fields() {
-            return Err(Refusal::Structure);
-        }
-        let storeys = self.number(2).unwrap_or(0);
-        self.check_held_fields(storeys)
+        self.held().ok_or(Refusal::Structure)?.check()
     }
 }

@@ -1,29 +1,42 @@
 // The spelling of a number in columns.
-ghost use Rattle.std.specs.Prelude.{◌≡◌, ◌<◌};
-ghost use Rattle.format.specs.Spelling.{column, spelled, same, pushed, value};
+ghost use Rattle.std.specs.Prelude.{◌≡◌, ◌<◌, length, replicate};
+ghost use Rattle.format.specs.Spelling.{spelled, same, pushed, value};
 ghost use Rattle.format.specs.Steps.{continues};
 
-use std::array;
-
-// Column j of n, counted from the right, with the sign that stands before its first digit.
-fn column_of(sign: u8, n: u64, j: usize) -> u8
-    ensures { result ≡ column sign n j }
+// The digits of a number over the last of some blank columns, its sign before them.
+fn put_digits(columns: &mut [u8], sign: u8, n: u64)
+    requires { columns.old ≡ replicate (length columns.old) 32 }
+    ensures { columns.new ≡ spelled (length columns.old) sign n }
 {
     let mut rest = n;
-    for left in (0..j).rev() {
+    for i in (0..columns.len()).rev() {
+        columns[i] = b'0' + (rest % 10) as u8;
         if rest < 10 {
-            return if left == 0 { sign } else { b' ' };
+            if 0 < i {
+                columns[i - 1] = sign;
+            }
+            return;
         }
         rest /= 10;
     }
-    b'0' + (rest % 10) as u8
+}
+
+// A number in some columns: blanks, its sign directly before its digits. One wider than the columns shows its last digits.
+pub fn put_number(columns: &mut [u8], sign: u8, n: u64)
+    ensures { columns.new ≡ spelled (length columns.old) sign n }
+{
+    columns.fill(b' ');
+    put_digits(columns, sign, n);
 }
 
 // The eight columns spell n.
+#[tactic(auto, using(crate::proofs::Columns::same_pointwise))]
 pub(crate) fn spells(columns: &[u8; 8], sign: u8, n: u64) -> bool
     ensures { result ≡ same columns.now (spelled 8 sign n) }
 {
-    *columns == array::from_fn(|i| column_of(sign, n, 7 - i))
+    let mut spelling = [0; 8];
+    put_number(&mut spelling, sign, n);
+    *columns == spelling
 }
 
 // A column may follow columns that make `number` and are blanks where that is 0; a number's first digit is no 0 unless it is its last.

@@ -1,6 +1,6 @@
 use Rattle.std.proofs.Common.{◌≡◌, ◌++◌, length, drop, replicate}
 use Rattle.format.specs.Spelling.{spelled}
-use Rattle.columns.proofs.writer.put_digits.Given as goal
+use Rattle.format.proofs.spelling.put_digits.Given as goal
 
 abbrev pub invariant-loop-i : goal.invariant-loop-i
 invariant-loop-i l = record {

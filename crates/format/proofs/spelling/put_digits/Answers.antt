@@ -1,6 +1,6 @@
 use Rattle.std.proofs.Common.{arith}
-use Rattle.columns.proofs.Digits.{blanks-left, digits-more, last-signed, last-unsigned, digits-end}
-use Rattle.columns.proofs.writer.put_digits.Goals as goal
+use Rattle.format.proofs.Digits.{blanks-left, digits-more, last-signed, last-unsigned, digits-end}
+use Rattle.format.proofs.spelling.put_digits.Goals as goal
 
 pub returns-then-i-gt0 : goal.returns-then-i-gt0
 returns-then-i-gt0 c = let l = c.loop-i in last-signed l.rest _ l.i l.columns _ c.if-i-gt0.true c.if-rest-lt10.true l.invariant.blanks l.invariant.digits

@@ -1,8 +1,0 @@
-use Rattle.std.proofs.Common.{◌≡◌}
-use Rattle.format.proofs.Fields.{Looked}
-use Rattle.format.proofs.lines.Line.check_held_fields.Given as goal
-
-abbrev pub invariant-loop-j : goal.invariant-loop-j
-invariant-loop-j l =
-    (goal.iterator-loop-j).can_next l.j-iterator × (goal.iterator-loop-j).is_finite l.j-iterator × (l.j-iterator.line ≡ l.self)
-    × Looked l.self.kind l.self.file.now l.self.at l.j-iterator.j
