@@ -4,6 +4,7 @@ pub mod Allowing
 pub mod Cases
 pub mod Refusals
 pub mod Forms
+pub mod OtherForms
 pub mod Validity
 pub mod Lines
 pub mod Made
