@@ -10,6 +10,13 @@ use crate::{
 };
 use std::array;
 
+// Number j of some, counted from 0; `missing` past them.
+pub fn value_or(values: &[u64], j: usize, missing: u64) -> u64
+    ensures { result ≡ get_or values.now j missing }
+{
+    values.get(j).copied().unwrap_or(missing)
+}
+
 impl Kind {
     // How many fields a line has.
     pub fn field_count(self) -> usize
