@@ -45,9 +45,6 @@ fn case_given(values: &[u64], j: usize) -> LoadCase
 pub fn member_given(values: &[u64]) -> Member
     ensures { result ≡ member_handed values.now }
 {
-    let case1 = case_given(values, 18);
-    let case2 = case_given(values, 26);
-    let case3 = case_given(values, 34);
-    let case4 = case_given(values, 42);
-    Member::with_cases(&values_of(values), [case1, case2, case3, case4])
+    let cases = array::from_fn(|c| case_given(values, 18 + 8 * c));
+    Member::with_cases(&values_of(values), cases)
 }
