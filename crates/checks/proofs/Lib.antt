@@ -1,4 +1,5 @@
 pub mod Refusals
+pub mod Counts
 pub mod OtherForms
 pub mod RowLaws
 pub mod RowLoops
