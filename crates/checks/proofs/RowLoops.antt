@@ -1,23 +1,23 @@
 -- The loops over rows: what a turn needs, and what it leaves.
-use Prim.Native.Nat.{ℕ, zero, suc, ◌+◌, ◌-◌, ◌≤◌, ◌<◌}
+use Prim.Native.Nat.{ℕ, zero, suc, ◌+◌, ◌≤◌, ◌<◌}
 use native.Mathlib.Omega.{arith}
 use native.Mathlib.Numerals.{add-one}
 use mathlib.Core.Bool.{Bool, true, false, ◌||◌}
 use mathlib.Core.List.{List, [], ◌∷◌}
 use mathlib.Core.Path.{◌≡◌, refl, ap, sym, ◌∙◌}
 use lib.Dec.{eqb}
-use lib.ListN.{length, take, drop, get_or, drop_of_length-le}
+use lib.ListN.{length, take, get_or}
 use Rattle.std.specs.List.{list_any}
-use Rattle.std.proofs.lemmas.List.{get_or_default, drop_more}
+use Rattle.std.proofs.lemmas.List.{get_or_default}
 use Rattle.std.proofs.lemmas.List.Folds.{list_any_more}
-use Rattle.std.proofs.lemmas.Bool.Decides.{nat_tests}
-use Rattle.records.specs.Notation.{pick, any_below, in_order, total}
+use Rattle.records.specs.Notation.{pick, any_below, in_order}
 use Rattle.records.specs.Records.{member_fault, storey_fault, repeated, header_fault, survey_of}
 use Rattle.records.specs.declared.{Header.Header, Storey.Storey, Member.Member}
 use Rattle.records.proofs.Firsts.{first_fault, first-stops, first-goes_on, in-order-last, pick-zero, pick_other, last_of}
 use Rattle.records.specs.Blank.{no_member, no_storey}
 use Rattle.checks.specs.Rows.{member_in, row_fault, member_rows_fault, storey_in, members_of, storey_rows_fault, counts_fault, records_fault}
 use borrow.Author.Tests.{eq-eqb, ne_eqb}
+use Rattle.checks.proofs.Counts.{counts}
 use Rattle.checks.proofs.RowsInTurn.{Given, IsStorey}
 
 -- ---- a number among those before: of the first n of some records, and of the records by place
@@ -31,28 +31,6 @@ pub row-is : (form : ℕ) (rows : List Member) (j x : ℕ) (m : Member) → j < 
     → x ≡ in_order (member_fault form m ∷ pick (list_any (λ (e : Member). eqb e.number m.number) (take j rows)) 5 0 ∷ []) → x ≡ row_fault form rows j
 unfolding row_fault
 row-is form rows j x m h d e = (rw d at e) ∙ rw (some-before (λ (e : Member). eqb e.number (member_in rows j).number) rows no_member j (omega arith)) refl
-
--- ---- the counts
-abbrev pub counts : List Storey → ℕ
-counts ss = total (λ s. s.count) ss
-
-module _ (ss : List Storey) (rows left i : ℕ) (e : left + counts ss ≡ rows + counts (drop i ss)) where
-  module _ (h : i < length ss) (c : ℕ) (g : c ≡ (storey_in ss i).count) where
-    counts-next : counts (drop i ss) ≡ c + counts (drop (i + 1) ss)
-    unfolding total
-    counts-next = rw (drop_more ss i no_storey h, g) refl
-
-    pub left-next : c ≤ left → (left - c) + counts ss ≡ rows + counts (drop (i + 1) ss)
-    left-next l = omega (arith, counts-next)
-
-    pub too_few : left < c → false ≡ eqb (counts ss) rows
-    too_few l = sym (ne_eqb (counts ss) rows (λ q. let z : ⊥ = omega (arith, counts-next, q) in absurd z))
-
-  pub fits_all : length ss ≤ i → eqb left 0 ≡ eqb (counts ss) rows
-  unfolding total
-  fits_all h =
-      let f : left + counts ss ≡ rows = e ∙ rw (drop_of_length-le ss h) (omega arith) in
-      grind (arith, nat_tests)
 
 -- ---- a storey's refusals, and its members', where the storeys before it have none
 module _ (form : ℕ) {ss : List Storey} {ms : List Member} {i : ℕ} {given : Given} (is : IsStorey ss ms i given) where

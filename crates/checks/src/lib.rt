@@ -41,15 +41,10 @@ pub fn check_members(form: Form, rows: &[Member]) -> Result<(), Refusal>
 fn counts_fit(storeys: &[Storey], rows: usize) -> bool
     ensures { result ≡ eqb (total (λ s. s.count) storeys.now) rows }
 {
-    let mut left = rows;
-    for s in storeys {
-        let count = s.member_count();
-        if left < count {
-            return false;
-        }
-        left -= count;
-    }
-    left == 0
+    let left = storeys
+        .iter()
+        .try_fold(rows, |left, s| left.checked_sub(s.member_count()));
+    left == Some(0)
 }
 
 impl Survey<'_> {

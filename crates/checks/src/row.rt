@@ -30,7 +30,7 @@ impl Row for Storey {
     ghost fault_in = { storey_fault };
 
     fn number(&self) -> u64 {
-        self.number
+        self.number // field 1 of an S line
     }
 
     fn check(&self, form: Form) -> Result<(), Refusal> {
@@ -44,7 +44,7 @@ impl Row for Member {
     ghost fault_in = { member_fault };
 
     fn number(&self) -> u64 {
-        self.number
+        self.number // field 1 of an M line
     }
 
     fn check(&self, form: Form) -> Result<(), Refusal> {

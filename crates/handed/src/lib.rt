@@ -8,30 +8,24 @@ ghost use Rattle.records.specs.declared.Kind.TheVariants.{M};
 ghost use Rattle.handed.specs.Handed.{handed, header_handed, storey_handed, member_handed};
 
 use records::form::Form;
+use records::numbers::value_or;
 use records::{FIELDS_MOST, Header, LoadCase, Member, Storey};
 use std::array;
 
 // What stands for a number that is not given.
 const MISSING: u64 = u64::MAX;
 
-// Number j of a slice.
-fn value_at(values: &[u64], j: usize) -> u64
-    ensures { result ≡ handed values.now j }
-{
-    values.get(j).copied().unwrap_or(MISSING)
-}
-
 // As many numbers of a slice as a line has at most.
 fn values_of(values: &[u64]) -> [u64; FIELDS_MOST]
     ensures { result ≡ map (handed values.now) (range_with_len 0 (fields M)) }
 {
-    array::from_fn(|j| value_at(values, j))
+    array::from_fn(|j| value_or(values, j, MISSING))
 }
 
 pub fn header_given(values: &[u64]) -> Header
     ensures { result ≡ header_handed values.now }
 {
-    Header::of(value_at(values, 6), &values_of(values))
+    Header::of(value_or(values, 6, MISSING), &values_of(values))
 }
 
 pub fn storey_given(values: &[u64]) -> Storey
@@ -45,15 +39,12 @@ fn case_given(values: &[u64], j: usize) -> LoadCase
     requires { j ≤ 42 }
     ensures { result ≡ case_by (handed values.now) j }
 {
-    LoadCase::from(array::from_fn(|i| value_at(values, j + i)))
+    LoadCase::from(array::from_fn(|i| value_or(values, j + i, MISSING)))
 }
 
 pub fn member_given(values: &[u64]) -> Member
     ensures { result ≡ member_handed values.now }
 {
-    let case1 = case_given(values, 18);
-    let case2 = case_given(values, 26);
-    let case3 = case_given(values, 34);
-    let case4 = case_given(values, 42);
-    Member::with_cases(&values_of(values), [case1, case2, case3, case4])
+    let cases = array::from_fn(|c| case_given(values, 18 + 8 * c));
+    Member::with_cases(&values_of(values), cases)
 }

@@ -6,6 +6,7 @@ ghost use Rattle.records.specs.Records.{never, allows, header_ranges, ranges, li
 ghost use Rattle.records.specs.declared.Kind.TheVariants.{M, D};
 ghost use Rattle.ranges.specs.Rows.{row, rows};
 
+use records::numbers::value_or;
 use records::{
     CASE_FIELDS, CASES, HEADER_FIELDS, Kind, MEMBER_CASES_FIELDS, STOREY_CASES_FIELDS,
     STOREY_FIELDS,
@@ -149,7 +150,7 @@ fn header_allows(j: usize, v: u64, storeys: u64) -> bool
 {
     match j {
         0 => LEVELS.contains(&v),
-        5 => 1 <= v && v <= storeys,
+        5 => (1..=storeys).contains(&v),
         _ => field_allows(&HEADER, j - 1, v),
     }
 }
@@ -188,17 +189,10 @@ pub fn range_allows(kind: Kind, j: usize, v: u64, storeys: u64) -> bool
     }
 }
 
-// Number j of some, counted from 0; 0 past them.
-fn value_at(vs: &[u64], j: usize) -> u64
-    ensures { result ≡ get_or vs.now j 0 }
-{
-    vs.get(j).copied().unwrap_or(0)
-}
-
 // Every field of a line is in its range. A number that is not there counts as 0, and one after the line's fields does not count.
 pub fn line_in_ranges(kind: Kind, vs: &[u64]) -> bool
     ensures { result ≡ line_in_range kind vs.now }
 {
-    let storeys = value_at(vs, 2);
-    (0..kind.field_count()).all(|j| range_allows(kind, j, value_at(vs, j), storeys))
+    let storeys = value_or(vs, 2, 0);
+    (0..kind.field_count()).all(|j| range_allows(kind, j, value_or(vs, j, 0), storeys))
 }

@@ -4,6 +4,8 @@ pub mod Allowing
 pub mod Cases
 pub mod Refusals
 pub mod Forms
+pub mod OtherForms
+pub mod Structs
 pub mod Validity
 pub mod Lines
 pub mod Made

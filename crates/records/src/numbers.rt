@@ -10,6 +10,13 @@ use crate::{
 };
 use std::array;
 
+// Number j of some, counted from 0; `missing` past them.
+pub fn value_or(values: &[u64], j: usize, missing: u64) -> u64
+    ensures { result ≡ get_or values.now j missing }
+{
+    values.get(j).copied().unwrap_or(missing)
+}
+
 impl Kind {
     // How many fields a line has.
     pub fn field_count(self) -> usize
@@ -276,26 +283,26 @@ impl MemberCase {
     pub fn values(&self) -> [u64; MEMBER_FIELDS]
         ensures { result ≡ member_case_values self.now }
     {
-        let c = &self.case;
+        let (m, c) = (self, &self.case);
         [
-            self.number,
-            self.long,
-            self.short,
-            self.area,
-            self.fcm,
-            self.fctm,
-            self.fyw,
-            self.depth,
-            self.height,
-            self.spacing,
-            self.core,
-            self.hoops,
-            self.hooks,
-            self.zone,
-            self.strengthened,
-            self.factor,
-            self.damage,
-            self.nd,
+            m.number,
+            m.long,
+            m.short,
+            m.area,
+            m.fcm,
+            m.fctm,
+            m.fyw,
+            m.depth,
+            m.height,
+            m.spacing,
+            m.core,
+            m.hoops,
+            m.hooks,
+            m.zone,
+            m.strengthened,
+            m.factor,
+            m.damage,
+            m.nd,
             c.nk,
             c.me,
             c.mp,

@@ -1,21 +1,9 @@
-use Rattle.std.proofs.Common.{ap, ◌∙◌}
-use Rattle.checks.specs.Rows.{Storey}
-use Rattle.checks.proofs.RowLoops.{left-next, too_few, fits_all, storey-at}
+use Rattle.std.proofs.Common.{◌∙◌, refl, rules}
+use Rattle.checks.proofs.Counts.{left, fits}
 use Rattle.checks.proofs.counts_fit.Goals as goal
 
-pub returns-then-left-count : goal.returns-then-left-count
-returns-then-left-count c =
-    let l = c.loop-s in
-    let ss = c.args.storeys.now in
-    let count = c.member_count-count.ensures ∙ ap (λ (s : Storey). s.count) (storey-at ss l.s-index _ c.loop-s-test.true) in
-    too_few ss c.args.rows l.left l.s-index l.invariant c.loop-s-test.true _ count c.if-left-count.true
-
-pub loop-s-preserved : goal.loop-s-preserved
-loop-s-preserved c =
-    let l = c.loop-s in
-    let ss = c.args.storeys.now in
-    let count = c.member_count-count.ensures ∙ ap (λ (s : Storey). s.count) (storey-at ss l.s-index _ c.loop-s-test.true) in
-    left-next ss c.args.rows l.left l.s-index l.invariant c.loop-s-test.true _ count c.if-left-count.false
-
 pub returns : goal.returns
-returns c = fits_all c.args.storeys.now c.args.rows c.loop-s.left c.loop-s.s-index c.loop-s.invariant c.loop-s-test.false
+returns c =
+    let ss = c.args.storeys.now in
+    let ran = c.try_fold-left.ensures.ran in
+    c.eq.ensures ∙ fits ss c.args.rows c.try_fold-left.result (rw c.iter.ensures.rest at (left _ _ _ (λ b x v q k. search rules) ran.0 _ ran.4.0 _ ran.1 _ (ran.2, ran.3) _ refl ran.4.1 ran.4.2 ran.5 ran.6))
