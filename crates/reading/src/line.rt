@@ -70,6 +70,7 @@ pub(crate) fn case_start(at: usize, c: usize) -> usize
 }
 
 // 5 where the number of a record is one of those before it.
+#[tactic(auto, using(crate::proofs::Storeys::repeats_listed))]
 pub(crate) fn check_new(number: u64, before: &[u64]) -> Result<(), Refusal>
     ensures { fault_of result ≡ repeats before.now number }
 {
