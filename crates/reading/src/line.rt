@@ -10,32 +10,32 @@ use ranges::line_in_ranges;
 use records::refusal::Refusal;
 use records::{FIELDS_MOST, Kind};
 
-// The checks of a line one after another; held says whether a row is free for it.
-fn check_line(line: &Line, held: bool) -> Result<(), Refusal>
-    ensures { fault_of result ≡ line_first line.now.kind line.now.file.now line.now.at held }
+// The checks of a line, one after another.
+fn check_line(line: &Line, row_free: bool) -> Result<(), Refusal>
+    ensures { fault_of result ≡ line_first line.now.kind line.now.file.now line.now.at row_free }
 {
     if !line.is_shaped() {
         return Err(Refusal::Structure);
     }
-    if !held {
+    if !row_free {
         return Err(Refusal::TooLarge);
     }
     line.check_fields()
 }
 
 // The numbers of a line, or its first refusal. Its fields are read first: where none is refused, there is no LF among them, and no check is left.
-pub(crate) fn read_line(line: &Line, held: bool) -> Result<[u64; FIELDS_MOST], Refusal>
-    ensures fault { fault_of result ≡ line_first line.now.kind line.now.file.now line.now.at held }
+pub(crate) fn read_line(line: &Line, row_free: bool) -> Result<[u64; FIELDS_MOST], Refusal>
+    ensures fault { fault_of result ≡ line_first line.now.kind line.now.file.now line.now.at row_free }
     ensures values { IfOk result (Holds line.now.kind line.now.file.now line.now.at) }
 {
-    if held
+    if row_free
         && line.is_framed()
         && let Ok(values) = line.read_fields()
         && line_in_ranges(line.kind, &values)
     {
         return Ok(values);
     }
-    check_line(line, held)?;
+    check_line(line, row_free)?;
     line.read_fields()
 }
 

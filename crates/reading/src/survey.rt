@@ -110,22 +110,22 @@ impl<'a> File<'a> {
     }
 
     // An S line, after those that have the numbers `before`.
-    fn read_storey(&self, at: usize, held: bool, before: &[u64]) -> Result<Storey, Refusal>
-        ensures fault { fault_of result ≡ storey_first (form_number self.now.form) self.now.bytes.now at held before.now }
+    fn read_storey(&self, at: usize, row_free: bool, before: &[u64]) -> Result<Storey, Refusal>
+        ensures fault { fault_of result ≡ storey_first (form_number self.now.form) self.now.bytes.now at row_free before.now }
         ensures storey { IfOk result (λ st. st ≡ storey_at (form_number self.now.form) self.now.bytes.now at) }
     {
-        let vs = read_line(&self.line(at, self.form.storey_kind()), held)?;
+        let vs = read_line(&self.line(at, self.form.storey_kind()), row_free)?;
         let storey = Storey::of(self.form, &vs);
         check_new(storey.number, before)?;
         Ok(storey)
     }
 
     // An M line, after those that have the numbers `before`; of a good one only the number is wanted.
-    fn read_member(&self, at: usize, held: bool, before: &[u64]) -> Result<u64, Refusal>
-        ensures fault { fault_of result ≡ member_first (form_number self.now.form) self.now.bytes.now at held before.now }
+    fn read_member(&self, at: usize, row_free: bool, before: &[u64]) -> Result<u64, Refusal>
+        ensures fault { fault_of result ≡ member_first (form_number self.now.form) self.now.bytes.now at row_free before.now }
         ensures number { IfOk result (λ v. v ≡ value_at (member_kind (form_number self.now.form)) self.now.bytes.now at 0) }
     {
-        let vs = read_line(&self.line(at, self.form.member_kind()), held)?;
+        let vs = read_line(&self.line(at, self.form.member_kind()), row_free)?;
         check_sides(vs[2], vs[1])?;
         check_new(vs[0], before)?;
         Ok(vs[0])

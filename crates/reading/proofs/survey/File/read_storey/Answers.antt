@@ -15,7 +15,7 @@ returns-in_err-check_new-clause-fault c =
     let form = form_number s.form in
     let e = c.in_ok-vs.ensures in
     let st = storey-held s.bytes.now a.at c.in_ok-vs.vs form _ (rw (l.file, l.at, l.kind, c.storey_kind.ensures) at e.values) c.of-storey.ensures in
-    let q = then-last (line_faults (storey_kind form) s.bytes.now a.at a.held) _ _ (rw (l.file, l.at, l.kind, c.storey_kind.ensures) at e.fault) (rw st at c.in_err-check_new.ensures) in
+    let q = then-last (line_faults (storey_kind form) s.bytes.now a.at a.row_free) _ _ (rw (l.file, l.at, l.kind, c.storey_kind.ensures) at e.fault) (rw st at c.in_err-check_new.ensures) in
     grind (arith, common_steps)
 
 pub returns-clause-fault : goal.returns-clause-fault
@@ -26,7 +26,7 @@ returns-clause-fault c =
     let form = form_number s.form in
     let e = c.in_ok-vs.ensures in
     let st = storey-held s.bytes.now a.at c.in_ok-vs.vs form _ (rw (l.file, l.at, l.kind, c.storey_kind.ensures) at e.values) c.of-storey.ensures in
-    then-last (line_faults (storey_kind form) s.bytes.now a.at a.held) _ _ (rw (l.file, l.at, l.kind, c.storey_kind.ensures) at e.fault) (rw st at c.in_ok-check_new.ensures)
+    then-last (line_faults (storey_kind form) s.bytes.now a.at a.row_free) _ _ (rw (l.file, l.at, l.kind, c.storey_kind.ensures) at e.fault) (rw st at c.in_ok-check_new.ensures)
 
 pub returns-clause-storey : goal.returns-clause-storey
 returns-clause-storey c =
