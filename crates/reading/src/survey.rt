@@ -16,6 +16,7 @@ use format::lines::{Line, case_lines, line_length, line_size, member_size};
 use records::form::Form;
 use records::refusal::Refusal;
 use records::{FIELDS_MOST, Header, Kind, LoadCase, Member, Storey};
+use std::array;
 use validity::{check_header, check_sides};
 
 // Why a file is refused, and the line.
@@ -237,11 +238,8 @@ impl<'a> File<'a> {
         match self.form {
             Form::Old => Member::of(&vs),
             Form::FourCases => {
-                let case1 = self.case_at(case_start(at, 0));
-                let case2 = self.case_at(case_start(at, 1));
-                let case3 = self.case_at(case_start(at, 2));
-                let case4 = self.case_at(case_start(at, 3));
-                Member::with_cases(&vs, [case1, case2, case3, case4])
+                let cases = array::from_fn(|c| self.case_at(case_start(at, c)));
+                Member::with_cases(&vs, cases)
             }
         }
     }

@@ -1,4 +1,7 @@
+use Rattle.std.proofs.Common.{rules, tests}
 use Rattle.records.specs.Forms.{form_number}
+use Rattle.records.proofs.Made.{made_list}
+use Rattle.format.specs.Lines.{case_start, case_at}
 use Rattle.format.proofs.Held.{old-cases-held, member-held}
 use Rattle.reading.proofs.survey.File.member_at.Goals as goal
 
@@ -15,5 +18,5 @@ returns-in-FourCases c =
     let f = c.in-FourCases.is in
     let v = rw c.member_kind.ensures at c.sound_fields-vs.ensures in
     member-held s.bytes.now c.args.at c.sound_fields-vs.result (form_number s.form) _ _ v
-    (rw (f, (rw c.case_start.ensures at c.case_at-case1.ensures), (rw c.case_start-in-FourCases.ensures at c.case_at-case2.ensures), (rw c.case_start-in-FourCases-2.ensures at c.case_at-case3.ensures), (rw c.case_start-in-FourCases-3.ensures at c.case_at-case4.ensures)))
+    (rw f (made_list _ _ (λ k. case_at s.bytes.now (case_start c.args.at k)) c.from_fn-cases.result 4 c.from_fn-cases.ensures.items (λ x y q w. search (rules, tests))))
     c.with_cases.ensures
