@@ -5,7 +5,12 @@ use Rattle.records.specs.Records.{storey_kind, member_kind, sides_fault}
 use Rattle.format.specs.Lines.{value_at, fields_fault, line_size, storey_at, case_start, case_lines}
 use Rattle.reading.specs.Survey.{line_start, members_before, storey, shape}
 use Rattle.records.specs.declared.Kind.{Kind}
+use Rattle.reading.specs.declared.place.Place.{Place}
 use Rattle.records.specs.declared.Kind.TheVariants.{D}
+
+-- where the line at a place begins
+abbrev pub start_of : ℕ → Place → ℕ
+start_of form place = line_start form place.storeys place.members
 
 -- the refusals of a line by its shape, its row and its fields, and the first of them
 abbrev pub line_faults : Kind → List ℕ → ℕ → Bool → List ℕ

@@ -1,14 +1,14 @@
 // The checks of one line, in their order.
-ghost use Rattle.std.specs.Prelude.{◌≡◌, ◌<◌, ◌≤◌, IfOk};
+ghost use Rattle.std.specs.Prelude.{◌≡◌, ◌<◌, IfOk};
 ghost use Rattle.records.specs.Refusals.{fault_of};
-ghost use Rattle.format.specs.Lines.{Holds, case_start};
+ghost use Rattle.format.specs.Lines.{Holds};
 ghost use Rattle.reading.specs.Checks.{line_first, repeats};
-ghost use Rattle.reading.specs.Survey.{case_number_fault, case_line_fault};
+ghost use Rattle.reading.specs.Survey.{case_number_fault};
 
-use format::lines::{Line, line_size};
+use format::lines::Line;
 use ranges::line_in_ranges;
+use records::FIELDS_MOST;
 use records::refusal::Refusal;
-use records::{FIELDS_MOST, Kind};
 
 // The checks of a line, one after another.
 fn check_line(line: &Line, row_free: bool) -> Result<(), Refusal>
@@ -40,7 +40,7 @@ pub(crate) fn read_line(line: &Line, row_free: bool) -> Result<[u64; FIELDS_MOST
 }
 
 // 12 where the number of D line c, counted from 0, is another.
-fn check_case_number(number: u64, c: usize) -> Result<(), Refusal>
+pub(crate) fn check_case_number(number: u64, c: usize) -> Result<(), Refusal>
     requires { c < 4 }
     ensures { fault_of result ≡ case_number_fault number c }
 {
@@ -49,24 +49,6 @@ fn check_case_number(number: u64, c: usize) -> Result<(), Refusal>
     } else {
         Err(Refusal::CaseMisnumbered)
     }
-}
-
-// D line c of an M line.
-pub(crate) fn check_case(file: &[u8], at: usize, c: usize) -> Result<(), Refusal>
-    requires { c < 4 }
-    ensures { fault_of result ≡ case_line_fault file.now at c }
-{
-    let kind = Kind::D;
-    let vs = read_line(&Line { file, at, kind }, true)?;
-    check_case_number(vs[0], c)
-}
-
-// Where D line c of the M line at `at` begins.
-pub(crate) fn case_start(at: usize, c: usize) -> usize
-    requires { (at ≤ 1_000_000_000) × (c < 4) }
-    ensures { result ≡ case_start at c }
-{
-    at + line_size(Kind::M4) + line_size(Kind::D) * c
 }
 
 // 5 where the number of a record is one of those before it.
