@@ -37,7 +37,7 @@ member_first form s at held before =
 pub record MembersDue (form : ℕ) (s : List ℕ) (i m count : ℕ) : Type 0 where
   pub storeys : i < 10
   pub before : m ≡ members_before form s i
-  pub most : m ≤ 2_000
+  pub most : m + count ≤ 2_000
   pub held : count ≡ (storey form s i).count
   pub count_most : count ≤ 200
 

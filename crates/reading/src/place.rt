@@ -6,6 +6,6 @@ ghost use Rattle.std.specs.Prelude.{◌≤◌};
 pub(crate) struct Place {
     pub(crate) storeys: usize,
     pub(crate) members: usize,
-    ghost few_storeys: { storeys ≤ 11 },
-    ghost few_members: { members ≤ 2200 },
+    ghost few_storeys: { storeys ≤ 10 },
+    ghost few_members: { members ≤ 2000 },
 }
