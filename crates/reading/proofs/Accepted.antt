@@ -4,16 +4,16 @@ use native.Mathlib.Omega.{arith}
 use native.Mathlib.Numerals.{add-one}
 use mathlib.Core.Bool.{Bool, true, false}
 use mathlib.Core.List.{List, [], ◌∷◌, ◌++◌}
-use mathlib.Core.Path.{◌≡◌, refl, sym, ◌∙◌}
+use mathlib.Core.Path.{◌≡◌, refl, ap, sym, ◌∙◌}
 use lib.Dec.{ltb, eqb}
 use lib.ListN.{length, drop, length-append, length-drop}
 use lib.Seq.{take_at, drop-drop, drop-append-add}
 use borrow.Author.Tests.{eqb-true, ltb-true, ltb-false}
-use Rattle.records.specs.Notation.{pick}
+use Rattle.records.specs.Notation.{pick, listed}
 use Rattle.records.specs.Records.{storey_kind, member_kind, header_fault, sides_fault, repeated}
 use Rattle.format.specs.Lines.{line_size, shaped, value_at, fields_fault, header_at, case_start, case_lines}
 use Rattle.reading.specs.Survey.{form_of, line_start, line_number, members_before, storey, member_start, member, shape, unheld, header_line_fault, storey_line_fault, member_line_fault, case_number_fault, case_line_fault, no_fault, at-line, first_fault, cases_fault, member_lines_fault, members_fault, storeys_fault, trailing, lines_fault, survey_fault, first_members, survey}
-use Rattle.reading.specs.Filling.{placed, filled_members}
+use Rattle.reading.specs.Filling.{filled_members}
 use Rattle.reading.specs.Checks.{Sound, MemberSound, Fits}
 use Rattle.reading.specs.Answer.{filled, refusal, told, form_told, storeys_told, storeys_after_call, members_after_call}
 use Rattle.records.specs.declared.Header.{Header}
@@ -27,7 +27,7 @@ use Rattle.checks.proofs.Refusals.{None, in-order-clear, one, rest}
 use Rattle.format.proofs.LineText.{Clean, MemberClean, clean-fits}
 use Rattle.reading.proofs.Lines.{storey-good}
 use Rattle.reading.proofs.Turns.{line_clear, else-clear}
-use Rattle.reading.proofs.Placed.{placed-listed, placed-front}
+use Rattle.reading.proofs.Placed.{placed-listed}
 use Rattle.reading.proofs.Filling.{before-suc}
 use Rattle.reading.proofs.Numbers.{form-is, length-listed, length-members, ten-storeys}
 
@@ -227,13 +227,16 @@ form-by false s srows mrows h n m e q =
     let k : filled h n m ≡ refusal (survey_fault s srows mrows).number (survey_fault s srows mrows).line = rw e at q in
     let z : ◌≡◌ {A = ℕ} 0 1 = cc in absurd (omega arith)
 
-pub told-form : (s : List ℕ) (srows mrows : ℕ) (h : Header) (n m : ℕ) → filled h n m ≡ told (survey s srows mrows) → form_of s ≡ form_told (told (survey s srows mrows))
+told-form : (s : List ℕ) (srows mrows : ℕ) (h : Header) (n m : ℕ) → filled h n m ≡ told (survey s srows mrows) → form_of s ≡ form_told (told (survey s srows mrows))
 told-form s srows mrows h n m = form-by (eqb (survey_fault s srows mrows).number 0) s srows mrows h n m refl
 
 -- what an answer tells of the form and the storeys of a file
 module _ (s : List ℕ) (srows mrows form n : ℕ) where
   abbrev Told : Type 0
   Told = (form ≡ form_told (told (survey s srows mrows))) × (n ≡ storeys_told (told (survey s srows mrows)))
+
+  pub told-is : (h : Header) (m : ℕ) → form ≡ form_of s → filled h n m ≡ told (survey s srows mrows) → Told
+  told-is h m f e = (f ∙ told-form s srows mrows h n m e, ap storeys_told e)
 
   of-file : eqb (survey_fault s srows mrows).number 0 ≡ true → Told → (form ≡ form_of s) × (n ≡ (header_at (form_of s) s 0).count)
   unfolding survey
@@ -252,13 +255,10 @@ module _ (s : List ℕ) (srows mrows form n : ℕ) where
   pub lies : Told → Fits form s n × (n ≤ srows) × (members_before form s n ≤ mrows)
   lies = by-fault (eqb (survey_fault s srows mrows).number 0) refl
 
-  storeys-by : (t : Bool) (d : Storey) (rows : List Storey) → eqb (survey_fault s srows mrows).number 0 ≡ t → Told → srows ≡ length rows → placed (storey form s) 0 n rows ≡ storeys_after_call (survey s srows mrows) rows
-  unfolding survey placed
-  storeys-by true d rows e q l =
-      let k = of-file e q in
-      let h : n ≤ length rows = omega (arith, (lies q).1) in
-      placed-front (storey form s) d n rows h ∙ rw (e, k.0, k.1, length-listed (storey (form_of s) s) (header_at (form_of s) s 0).count)
-  storeys-by false d rows e q l = rw (of-refusal e q, e)
+  storeys-by : (t : Bool) (rows : List Storey) → eqb (survey_fault s srows mrows).number 0 ≡ t → Told → listed (storey form s) n ++ drop n rows ≡ storeys_after_call (survey s srows mrows) rows
+  unfolding survey listed
+  storeys-by true rows e q = let k = of-file e q in rw (e, k.0, k.1, length-listed (storey (form_of s) s) (header_at (form_of s) s 0).count)
+  storeys-by false rows e q = rw (of-refusal e q, e)
 
   members-by : (t : Bool) (d : Member) (rows : List Member) → eqb (survey_fault s srows mrows).number 0 ≡ t → Told → mrows ≡ length rows → filled_members form s n rows ≡ members_after_call (survey s srows mrows) rows
   unfolding survey filled_members
@@ -269,8 +269,8 @@ module _ (s : List ℕ) (srows mrows form n : ℕ) where
   members-by false d rows e q l = rw (of-refusal e q, e)
 
   -- the rows after an answer
-  pub storeys-are : (d : Storey) (rows : List Storey) → Told → srows ≡ length rows → placed (storey form s) 0 n rows ≡ storeys_after_call (survey s srows mrows) rows
-  storeys-are d rows = storeys-by (eqb (survey_fault s srows mrows).number 0) d rows refl
+  pub storeys-are : (rows : List Storey) → Told → listed (storey form s) n ++ drop n rows ≡ storeys_after_call (survey s srows mrows) rows
+  storeys-are rows = storeys-by (eqb (survey_fault s srows mrows).number 0) rows refl
 
   pub members-are : (d : Member) (rows : List Member) → Told → mrows ≡ length rows → filled_members form s n rows ≡ members_after_call (survey s srows mrows) rows
   members-are d rows = members-by (eqb (survey_fault s srows mrows).number 0) d rows refl

@@ -77,7 +77,7 @@ module _ (form : ℕ) (s : List ℕ) (n srows mrows : ℕ) (few : n ≤ 10) wher
           record {
             storeys = omega (arith, few);
             before = u.before;
-            most = omega (arith, u.most, few);
+            most = omega (arith, u.most, few, q, count_most form (storey form s i) v);
             held = q;
             count_most = omega (arith, count_most form (storey form s i) v);
           }

@@ -38,7 +38,7 @@ module _ {A : Type 0} (f : ℕ → A) (d : A) where
       rw (placed-listed k n rows (omega arith), drop-cons rows (k + n) d l, set_at (take k rows ++ listed f n) (get_or rows (k + n) d) (drop (suc (k + n)) rows) (f n) (k + n) p, q)
       (simp append_assoc)
 
-  pub placed-front : (n : ℕ) (rows : List A) → n ≤ length rows → placed f 0 n rows ≡ listed f n ++ drop n rows
+  placed-front : (n : ℕ) (rows : List A) → n ≤ length rows → placed f 0 n rows ≡ listed f n ++ drop n rows
   placed-front n rows h = let z : 0 + n ≡ n = omega arith in rw z at (placed-listed 0 n rows (omega arith))
 
   -- all rows

@@ -35,8 +35,8 @@ unfolding any_below
 any-listed p xs zero h = refl
 any-listed p xs (suc n) h = rw (any-listed p xs n (omega arith), ← list_any_more p xs n 0 (omega arith), add-one)
 
-pub repeats-listed : (before : List ℕ) (number : ℕ) → repeats before number ≡ pick (list_any (λ y. eqb y number) before) 5 0
-repeats-listed before number =
+pub repeats_listed : (before : List ℕ) (number : ℕ) → repeats before number ≡ pick (list_any (λ y. eqb y number) before) 5 0
+repeats_listed before number =
     let l : length before ≤ length before = omega arith in
     ap (λ (t : Bool). pick t 5 0) (any-listed (λ y. eqb y number) before (length before) l ∙ rw (take_all (length before) before l))
 

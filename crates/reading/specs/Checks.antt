@@ -5,7 +5,12 @@ use Rattle.records.specs.Records.{storey_kind, member_kind, sides_fault}
 use Rattle.format.specs.Lines.{value_at, fields_fault, line_size, storey_at, case_start, case_lines}
 use Rattle.reading.specs.Survey.{line_start, members_before, storey, shape}
 use Rattle.records.specs.declared.Kind.{Kind}
+use Rattle.reading.specs.declared.place.Place.{Place}
 use Rattle.records.specs.declared.Kind.TheVariants.{D}
+
+-- where the line at a place begins
+abbrev pub start_of : ℕ → Place → ℕ
+start_of form place = line_start form place.storeys place.members
 
 -- the refusals of a line by its shape, its row and its fields, and the first of them
 abbrev pub line_faults : Kind → List ℕ → ℕ → Bool → List ℕ
@@ -32,7 +37,7 @@ member_first form s at held before =
 pub record MembersDue (form : ℕ) (s : List ℕ) (i m count : ℕ) : Type 0 where
   pub storeys : i < 10
   pub before : m ≡ members_before form s i
-  pub most : m ≤ 2_000
+  pub most : m + count ≤ 2_000
   pub held : count ≡ (storey form s i).count
   pub count_most : count ≤ 200
 

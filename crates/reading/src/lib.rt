@@ -2,5 +2,6 @@
 #![tactic(auto)]
 
 mod line;
+mod place;
 pub mod rows;
 pub mod survey;

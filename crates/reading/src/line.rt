@@ -1,46 +1,46 @@
 // The checks of one line, in their order.
-ghost use Rattle.std.specs.Prelude.{◌≡◌, ◌<◌, ◌≤◌, IfOk};
+ghost use Rattle.std.specs.Prelude.{◌≡◌, ◌<◌, IfOk};
 ghost use Rattle.records.specs.Refusals.{fault_of};
-ghost use Rattle.format.specs.Lines.{Holds, case_start};
+ghost use Rattle.format.specs.Lines.{Holds};
 ghost use Rattle.reading.specs.Checks.{line_first, repeats};
-ghost use Rattle.reading.specs.Survey.{case_number_fault, case_line_fault};
+ghost use Rattle.reading.specs.Survey.{case_number_fault};
 
-use format::lines::{Line, line_size};
+use format::lines::Line;
 use ranges::line_in_ranges;
+use records::FIELDS_MOST;
 use records::refusal::Refusal;
-use records::{FIELDS_MOST, Kind};
 
-// The checks of a line one after another; held says whether a row is free for it.
-fn check_line(line: &Line, held: bool) -> Result<(), Refusal>
-    ensures { fault_of result ≡ line_first line.now.kind line.now.file.now line.now.at held }
+// The checks of a line, one after another.
+fn check_line(line: &Line, row_free: bool) -> Result<(), Refusal>
+    ensures { fault_of result ≡ line_first line.now.kind line.now.file.now line.now.at row_free }
 {
     if !line.is_shaped() {
         return Err(Refusal::Structure);
     }
-    if !held {
+    if !row_free {
         return Err(Refusal::TooLarge);
     }
     line.check_fields()
 }
 
 // The numbers of a line, or its first refusal. Its fields are read first: where none is refused, there is no LF among them, and no check is left.
-pub(crate) fn read_line(line: &Line, held: bool) -> Result<[u64; FIELDS_MOST], Refusal>
-    ensures fault { fault_of result ≡ line_first line.now.kind line.now.file.now line.now.at held }
+pub(crate) fn read_line(line: &Line, row_free: bool) -> Result<[u64; FIELDS_MOST], Refusal>
+    ensures fault { fault_of result ≡ line_first line.now.kind line.now.file.now line.now.at row_free }
     ensures values { IfOk result (Holds line.now.kind line.now.file.now line.now.at) }
 {
-    if held
+    if row_free
         && line.is_framed()
         && let Ok(values) = line.read_fields()
         && line_in_ranges(line.kind, &values)
     {
         return Ok(values);
     }
-    check_line(line, held)?;
+    check_line(line, row_free)?;
     line.read_fields()
 }
 
 // 12 where the number of D line c, counted from 0, is another.
-fn check_case_number(number: u64, c: usize) -> Result<(), Refusal>
+pub(crate) fn check_case_number(number: u64, c: usize) -> Result<(), Refusal>
     requires { c < 4 }
     ensures { fault_of result ≡ case_number_fault number c }
 {
@@ -51,25 +51,8 @@ fn check_case_number(number: u64, c: usize) -> Result<(), Refusal>
     }
 }
 
-// D line c of an M line.
-pub(crate) fn check_case(file: &[u8], at: usize, c: usize) -> Result<(), Refusal>
-    requires { c < 4 }
-    ensures { fault_of result ≡ case_line_fault file.now at c }
-{
-    let kind = Kind::D;
-    let vs = read_line(&Line { file, at, kind }, true)?;
-    check_case_number(vs[0], c)
-}
-
-// Where D line c of the M line at `at` begins.
-pub(crate) fn case_start(at: usize, c: usize) -> usize
-    requires { (at ≤ 1_000_000_000) × (c < 4) }
-    ensures { result ≡ case_start at c }
-{
-    at + line_size(Kind::M4) + line_size(Kind::D) * c
-}
-
 // 5 where the number of a record is one of those before it.
+#[tactic(auto, using(crate::proofs::Storeys::repeats_listed))]
 pub(crate) fn check_new(number: u64, before: &[u64]) -> Result<(), Refusal>
     ensures { fault_of result ≡ repeats before.now number }
 {

@@ -14,6 +14,6 @@ pub fn read(s: &[u8], storeys: &mut [Storey], members: &mut [Member]) -> Result<
 {
     let file = File::new(s);
     let filled = file.check(storeys.len(), members.len())?;
-    file.fill(storeys, members, filled.storeys);
+    file.fill(&mut storeys[..filled.storeys], members);
     Ok(filled)
 }

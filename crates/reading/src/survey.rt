@@ -1,21 +1,23 @@
 // A survey file: its first refusal, with the line; and the records of an accepted one.
-ghost use Rattle.std.specs.Prelude.{◌≡◌, ℕ, ◌+◌, ◌≤◌, length, IfOk};
+ghost use Rattle.std.specs.Prelude.{◌≡◌, ℕ, ◌+◌, ◌<◌, ◌≤◌, length, IfOk};
 ghost use Rattle.records.specs.Notation.{listed};
 ghost use Rattle.records.specs.Forms.{form_number};
 ghost use Rattle.records.specs.Refusals.{fault_of};
 ghost use Rattle.records.specs.Records.{storey_kind, member_kind};
 ghost use Rattle.records.specs.declared.Kind.TheVariants.{D};
-ghost use Rattle.format.specs.Lines.{value_at, Holds, header_at, storey_at, case_at, member_at};
-ghost use Rattle.reading.specs.Checks.{storey_first, member_first, MembersDue, Sound, MemberSound, MembersSound, Fits};
-ghost use Rattle.reading.specs.Survey.{form_of, line_start, line_number, members_before, storey, header_line_fault, cases_fault, members_fault, lines_fault, survey};
-ghost use Rattle.reading.specs.Filling.{placed, filled_members};
+ghost use Rattle.format.specs.Lines.{value_at, Holds, header_at, storey_at, case_start, case_at, member_at};
+ghost use Rattle.reading.specs.Checks.{storey_first, member_first, MembersDue, Sound, MemberSound, MembersSound, Fits, start_of};
+ghost use Rattle.reading.specs.Survey.{form_of, line_start, line_number, members_before, storey, header_line_fault, case_line_fault, cases_fault, members_fault, lines_fault, survey};
+ghost use Rattle.reading.specs.Filling.{filled_members};
 ghost use Rattle.reading.specs.Answer.{found, lined, tells, told};
 
-use crate::line::{case_start, check_case, check_new, read_line};
+use crate::line::{check_case_number, check_new, read_line};
+use crate::place::Place;
 use format::lines::{Line, case_lines, line_length, line_size, member_size};
 use records::form::Form;
 use records::refusal::Refusal;
 use records::{FIELDS_MOST, Header, Kind, LoadCase, Member, Storey};
+use std::array;
 use validity::{check_header, check_sides};
 
 // Why a file is refused, and the line.
@@ -69,20 +71,28 @@ impl<'a> File<'a> {
         }
     }
 
-    // Where the line begins before which stand the B line, i S lines and m M lines with their D lines.
-    fn line_start(&self, i: usize, m: usize) -> usize
-        requires { (i ≤ 11) × (m ≤ 2200) }
-        ensures { result ≡ line_start (form_number self.now.form) i m }
+    // Where the line at a place begins.
+    fn line_start(&self, place: Place) -> usize
+        ensures { result ≡ start_of (form_number self.now.form) place }
     {
-        line_size(Kind::B) + line_size(self.form.storey_kind()) * i + member_size(self.form) * m
+        let storeys = line_size(self.form.storey_kind()) * place.storeys;
+        let members = member_size(self.form) * place.members;
+        line_size(Kind::B) + storeys + members
     }
 
     // The number of that line.
-    fn line_number(&self, i: usize, m: usize) -> u64
-        requires { (i ≤ 11) × (m ≤ 2200) }
-        ensures { result ≡ line_number (form_number self.now.form) i m }
+    fn line_number(&self, place: Place) -> u64
+        ensures { result ≡ line_number (form_number self.now.form) place.storeys place.members }
     {
-        (2 + i + (1 + case_lines(self.form)) * m) as u64
+        (2 + place.storeys + (1 + case_lines(self.form)) * place.members) as u64
+    }
+
+    // Where D line c of the M line at a place begins.
+    fn case_start(&self, place: Place, c: usize) -> usize
+        requires { c < 4 }
+        ensures { result ≡ case_start (start_of (form_number self.now.form) place) c }
+    {
+        self.line_start(place) + line_size(Kind::M4) + line_size(Kind::D) * c
     }
 
     // The line of a kind at `at`.
@@ -109,58 +119,65 @@ impl<'a> File<'a> {
         Ok(header)
     }
 
-    // An S line, after those that have the numbers `before`.
-    fn read_storey(&self, at: usize, held: bool, before: &[u64]) -> Result<Storey, Refusal>
-        ensures fault { fault_of result ≡ storey_first (form_number self.now.form) self.now.bytes.now at held before.now }
-        ensures storey { IfOk result (λ st. st ≡ storey_at (form_number self.now.form) self.now.bytes.now at) }
+    // The S line at a place, after those that have the numbers `before`.
+    fn read_storey(&self, place: Place, row_free: bool, before: &[u64]) -> Result<Storey, Refusal>
+        ensures fault { fault_of result ≡ storey_first (form_number self.now.form) self.now.bytes.now (start_of (form_number self.now.form) place) row_free before.now }
+        ensures storey { IfOk result (λ st. st ≡ storey_at (form_number self.now.form) self.now.bytes.now (start_of (form_number self.now.form) place)) }
     {
-        let vs = read_line(&self.line(at, self.form.storey_kind()), held)?;
+        let line = self.line(self.line_start(place), self.form.storey_kind());
+        let vs = read_line(&line, row_free)?;
         let storey = Storey::of(self.form, &vs);
         check_new(storey.number, before)?;
         Ok(storey)
     }
 
-    // An M line, after those that have the numbers `before`; of a good one only the number is wanted.
-    fn read_member(&self, at: usize, held: bool, before: &[u64]) -> Result<u64, Refusal>
-        ensures fault { fault_of result ≡ member_first (form_number self.now.form) self.now.bytes.now at held before.now }
-        ensures number { IfOk result (λ v. v ≡ value_at (member_kind (form_number self.now.form)) self.now.bytes.now at 0) }
+    // The M line at a place, after those that have the numbers `before`; of a good one only the number is wanted.
+    fn read_member(&self, place: Place, row_free: bool, before: &[u64]) -> Result<u64, Refusal>
+        ensures fault { fault_of result ≡ member_first (form_number self.now.form) self.now.bytes.now (start_of (form_number self.now.form) place) row_free before.now }
+        ensures number { IfOk result (λ v. v ≡ value_at (member_kind (form_number self.now.form)) self.now.bytes.now (start_of (form_number self.now.form) place) 0) }
     {
-        let vs = read_line(&self.line(at, self.form.member_kind()), held)?;
+        let line = self.line(self.line_start(place), self.form.member_kind());
+        let vs = read_line(&line, row_free)?;
         check_sides(vs[2], vs[1])?;
         check_new(vs[0], before)?;
         Ok(vs[0])
     }
 
-    // The first refusal of the D lines of the M line at `at`, whose number is `line`.
-    fn check_cases(&self, at: usize, line: u64) -> Result<(), LineRefusal>
-        requires { (at ≤ 1_000_000_000) × (line ≤ 1_000_000_000) }
-        ensures { found result ≡ cases_fault (form_number self.now.form) self.now.bytes.now at line }
+    // D line c of the M line at a place.
+    fn check_case(&self, place: Place, c: usize) -> Result<(), Refusal>
+        requires { c < 4 }
+        ensures { fault_of result ≡ case_line_fault self.now.bytes.now (case_start (start_of (form_number self.now.form) place) c) c }
+    {
+        let line = self.line(self.case_start(place, c), Kind::D);
+        let vs = read_line(&line, true)?;
+        check_case_number(vs[0], c)
+    }
+
+    // The first refusal of the D lines of the M line at a place.
+    fn check_cases(&self, place: Place) -> Result<(), LineRefusal>
+        ensures { found result ≡ cases_fault (form_number self.now.form) self.now.bytes.now (start_of (form_number self.now.form) place) (line_number (form_number self.now.form) place.storeys place.members) }
     {
         for c in 0..case_lines(self.form) {
-            let line = line + 1 + c as u64;
-            at_line(check_case(self.bytes, case_start(at, c), c), line)?;
+            let line = self.line_number(place) + 1 + c as u64;
+            at_line(self.check_case(place, c), line)?;
         }
         Ok(())
     }
 
-    // The first refusal of the M lines of storey i, before which m M lines stand, and of their D lines.
-    fn check_members(
-        &self,
-        i: usize,
-        m: usize,
-        count: usize,
-        rows: usize,
-    ) -> Result<(), LineRefusal>
-        requires { MembersDue (form_number self.now.form) self.now.bytes.now i m count }
-        ensures { found result ≡ members_fault (form_number self.now.form) self.now.bytes.now rows i }
+    // The first refusal of the M lines of a storey, whose S line is at the place `storey`, and of their D lines.
+    fn check_members(&self, storey: Place, count: usize, rows: usize) -> Result<(), LineRefusal>
+        requires { MembersDue (form_number self.now.form) self.now.bytes.now storey.storeys storey.members count }
+        ensures { found result ≡ members_fault (form_number self.now.form) self.now.bytes.now rows storey.storeys }
     {
         let mut numbers = [0; 200];
         for j in 0..count {
-            let at = self.line_start(i + 1, m + j);
-            let line = self.line_number(i + 1, m + j);
-            let number = self.read_member(at, m + j < rows, &numbers[..j]);
-            numbers[j] = at_line(number, line)?;
-            self.check_cases(at, line)?;
+            let place = Place {
+                storeys: storey.storeys + 1,
+                members: storey.members + j,
+            };
+            let number = self.read_member(place, place.members < rows, &numbers[..j]);
+            numbers[j] = at_line(number, self.line_number(place))?;
+            self.check_cases(place)?;
         }
         Ok(())
     }
@@ -174,16 +191,24 @@ impl<'a> File<'a> {
         let mut numbers = [0; 10];
         let mut m = 0;
         for i in 0..n {
-            let storey = self.read_storey(self.line_start(i, m), i < srows, &numbers[..i]);
-            let storey = at_line(storey, self.line_number(i, m))?;
-            self.check_members(i, m, storey.member_count(), mrows)?;
+            let place = Place {
+                storeys: i,
+                members: m,
+            };
+            let storey = self.read_storey(place, i < srows, &numbers[..i]);
+            let storey = at_line(storey, self.line_number(place))?;
+            self.check_members(place, storey.member_count(), mrows)?;
             numbers[i] = storey.number;
             m += storey.member_count();
         }
-        if self.line_start(n, m) < self.bytes.len() {
+        let end = Place {
+            storeys: n,
+            members: m,
+        };
+        if self.line_start(end) < self.bytes.len() {
             return Err(LineRefusal {
                 refusal: Refusal::TrailingBytes,
-                line: self.line_number(n, m),
+                line: self.line_number(end),
             });
         }
         Ok(m)
@@ -212,11 +237,12 @@ impl<'a> File<'a> {
     }
 
     // The storey of such an S line.
-    fn storey_at(&self, at: usize) -> Storey
-        requires { Sound (storey_kind (form_number self.now.form)) self.now.bytes.now at }
-        ensures { result ≡ storey_at (form_number self.now.form) self.now.bytes.now at }
+    fn storey_at(&self, place: Place) -> Storey
+        requires { Sound (storey_kind (form_number self.now.form)) self.now.bytes.now (start_of (form_number self.now.form) place) }
+        ensures { result ≡ storey_at (form_number self.now.form) self.now.bytes.now (start_of (form_number self.now.form) place) }
     {
-        Storey::of(self.form, &self.sound_fields(at, self.form.storey_kind()))
+        let vs = self.sound_fields(self.line_start(place), self.form.storey_kind());
+        Storey::of(self.form, &vs)
     }
 
     // The load case of such a D line.
@@ -228,49 +254,52 @@ impl<'a> File<'a> {
     }
 
     // The member of such an M line and its D lines.
-    fn member_at(&self, at: usize) -> Member
-        requires small { at ≤ 1_000_000_000 }
-        requires sound { MemberSound (form_number self.now.form) self.now.bytes.now at }
-        ensures { result ≡ member_at (form_number self.now.form) self.now.bytes.now at }
+    fn member_at(&self, place: Place) -> Member
+        requires { MemberSound (form_number self.now.form) self.now.bytes.now (start_of (form_number self.now.form) place) }
+        ensures { result ≡ member_at (form_number self.now.form) self.now.bytes.now (start_of (form_number self.now.form) place) }
     {
-        let vs = self.sound_fields(at, self.form.member_kind());
+        let vs = self.sound_fields(self.line_start(place), self.form.member_kind());
         match self.form {
             Form::Old => Member::of(&vs),
             Form::FourCases => {
-                let case1 = self.case_at(case_start(at, 0));
-                let case2 = self.case_at(case_start(at, 1));
-                let case3 = self.case_at(case_start(at, 2));
-                let case4 = self.case_at(case_start(at, 3));
-                Member::with_cases(&vs, [case1, case2, case3, case4])
+                let cases = array::from_fn(|c| self.case_at(self.case_start(place, c)));
+                Member::with_cases(&vs, cases)
             }
         }
     }
 
-    // The members of storey i, before which stand m members: as many as there are rows.
-    fn fill_members(&self, rows: &mut [Member], i: usize, m: usize)
-        requires small { (i ≤ 9) × (m + length rows.old ≤ 2000) }
-        requires sound { MembersSound (form_number self.now.form) self.now.bytes.now i m (length rows.old) }
-        ensures { rows.new ≡ listed (λ (j : ℕ). member_at (form_number self.now.form) self.now.bytes.now (line_start (form_number self.now.form) (i + 1) (m + j))) (length rows.old) }
+    // The members of a storey, whose S line is at the place `storey`: as many as there are rows.
+    fn fill_members(&self, rows: &mut [Member], storey: Place)
+        requires small { (storey.storeys ≤ 9) × (storey.members + length rows.old ≤ 2000) }
+        requires sound { MembersSound (form_number self.now.form) self.now.bytes.now storey.storeys storey.members (length rows.old) }
+        ensures { rows.new ≡ listed (λ (j : ℕ). member_at (form_number self.now.form) self.now.bytes.now (line_start (form_number self.now.form) (storey.storeys + 1) (storey.members + j))) (length rows.old) }
     {
         for (j, row) in rows.iter_mut().enumerate() {
-            *row = self.member_at(self.line_start(i + 1, m + j));
+            let place = Place {
+                storeys: storey.storeys + 1,
+                members: storey.members + j,
+            };
+            *row = self.member_at(place);
         }
     }
 
-    // The first n storeys and their members.
-    pub(crate) fn fill(&self, storeys: &mut [Storey], members: &mut [Member], n: usize)
-        requires fits { Fits (form_number self.now.form) self.now.bytes.now n }
-        requires storeys { n ≤ length storeys.old }
-        requires members { members_before (form_number self.now.form) self.now.bytes.now n ≤ length members.old }
-        ensures storeys { storeys.new ≡ placed (storey (form_number self.now.form) self.now.bytes.now) 0 n storeys.old }
-        ensures members { members.new ≡ filled_members (form_number self.now.form) self.now.bytes.now n members.old }
+    // The storeys, as many as there are rows, and their members.
+    pub(crate) fn fill(&self, storeys: &mut [Storey], members: &mut [Member])
+        requires fits { Fits (form_number self.now.form) self.now.bytes.now (length storeys.old) }
+        requires members { members_before (form_number self.now.form) self.now.bytes.now (length storeys.old) ≤ length members.old }
+        ensures storeys { storeys.new ≡ listed (storey (form_number self.now.form) self.now.bytes.now) (length storeys.old) }
+        ensures members { members.new ≡ filled_members (form_number self.now.form) self.now.bytes.now (length storeys.old) members.old }
     {
         let mut m = 0;
-        for i in 0..n {
-            let storey = self.storey_at(self.line_start(i, m));
-            storeys[i] = storey;
+        for (i, row) in storeys.iter_mut().enumerate() {
+            let place = Place {
+                storeys: i,
+                members: m,
+            };
+            let storey = self.storey_at(place);
+            *row = storey;
             let end = m + storey.member_count();
-            self.fill_members(&mut members[m..end], i, m);
+            self.fill_members(&mut members[m..end], place);
             m = end;
         }
     }

@@ -8,7 +8,7 @@ use Rattle.reading.proofs.Storeys.{turn-first, turn-stops, cases-refused, turn-n
 use Rattle.reading.proofs.survey.File.check_members.Goals as goal
 
 pub loop-j-init : goal.loop-j-init
-loop-j-init c = let a = c.args in let s = a.self.now in turn-first (form_number s.form) s.bytes.now a.rows a.i a.m a.count c.requires _ refl
+loop-j-init c = let a = c.args in let s = a.self.now in turn-first (form_number s.form) s.bytes.now a.rows a.storey.storeys a.storey.members a.count c.requires _ refl
 
 pub returns-in_err-numbers : goal.returns-in_err-numbers
 returns-in_err-numbers c =
@@ -17,7 +17,7 @@ returns-in_err-numbers c =
     let l = c.loop-j in
     let r = c.in_err-numbers.field-0.0 in
     let o = lined-refused _ c.read_member-number.result r (sym c.at_line.ensures ∙ c.in_err-numbers.was) in
-    let q = rw (sym c.line_number-line.ensures ∙ o.1) at (turn-stops (form_number s.form) s.bytes.now a.rows a.i a.m a.count c.requires l.numbers l.j l.invariant c.loop-j-test.true _ (rw c.line_start-at.ensures at c.read_member-number.ensures.fault) r.refusal o.0) in
+    let q = rw (sym c.line_number.ensures ∙ o.1) at (turn-stops (form_number s.form) s.bytes.now a.rows a.storey.storeys a.storey.members a.count c.requires l.numbers l.j l.invariant c.loop-j-test.true _ c.read_member-number.ensures.fault r.refusal o.0) in
     grind (arith, common_steps)
 
 pub returns-in_err-check_cases : goal.returns-in_err-check_cases
@@ -28,8 +28,8 @@ returns-in_err-check_cases c =
     let o = lined-passed _ c.read_member-number.result c.in_ok-numbers.field-0 (sym c.at_line.ensures ∙ c.in_ok-numbers.was) in
     let r = c.in_err-check_cases.field-0.0 in
     let q =
-    cases-refused (form_number s.form) s.bytes.now a.rows a.i a.m a.count c.requires l.numbers l.j l.invariant c.loop-j-test.true _ (rw c.line_start-at.ensures at c.read_member-number.ensures.fault) (ap fault_of o) _
-    (rw (c.line_start-at.ensures, c.line_number-line.ensures) at c.in_err-check_cases.ensures) (found-number r) in
+    cases-refused (form_number s.form) s.bytes.now a.rows a.storey.storeys a.storey.members a.count c.requires l.numbers l.j l.invariant c.loop-j-test.true _ c.read_member-number.ensures.fault (ap fault_of o) _
+    c.in_err-check_cases.ensures (found-number r) in
     grind (arith, common_steps)
 
 pub loop-j-preserved : goal.loop-j-preserved
@@ -38,8 +38,8 @@ loop-j-preserved c =
     let s = a.self.now in
     let l = c.loop-j in
     let o = lined-passed _ c.read_member-number.result c.in_ok-numbers.field-0 (sym c.at_line.ensures ∙ c.in_ok-numbers.was) in
-    turn-next (form_number s.form) s.bytes.now a.rows a.i a.m a.count c.requires l.numbers l.j l.invariant c.loop-j-test.true _ (rw c.line_start-at.ensures at c.read_member-number.ensures.fault) (ap fault_of o) _
-    (rw (c.line_start-at.ensures, c.line_number-line.ensures) at c.in_ok-check_cases.ensures) c.in_ok-numbers.field-0 (rw (o, c.line_start-at.ensures) at c.read_member-number.ensures.number) refl
+    turn-next (form_number s.form) s.bytes.now a.rows a.storey.storeys a.storey.members a.count c.requires l.numbers l.j l.invariant c.loop-j-test.true _ c.read_member-number.ensures.fault (ap fault_of o) _
+    c.in_ok-check_cases.ensures c.in_ok-numbers.field-0 (rw o at c.read_member-number.ensures.number) refl
 
 pub returns : goal.returns
-returns c = let a = c.args in let s = a.self.now in turn_last (form_number s.form) s.bytes.now a.rows a.i a.m a.count c.requires c.loop-j.numbers c.loop-j.j c.loop-j.invariant (omega arith)
+returns c = let a = c.args in let s = a.self.now in turn_last (form_number s.form) s.bytes.now a.rows a.storey.storeys a.storey.members a.count c.requires c.loop-j.numbers c.loop-j.j c.loop-j.invariant (omega arith)

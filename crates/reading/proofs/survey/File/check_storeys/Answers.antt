@@ -17,7 +17,7 @@ returns-in_err-storey-clause-fault c =
     let l = c.loop-i in
     let r = c.in_err-storey.field-0.0 in
     let o = lined-refused _ c.read_storey-storey.result r (sym c.at_line.ensures ∙ c.in_err-storey.was) in
-    let q = rw (sym c.line_number.ensures ∙ o.1) at (storey-stops (form_number s.form) s.bytes.now a.n a.srows a.mrows c.requires l.numbers l.i l.m l.invariant c.loop-i-test.true _ (rw c.line_start.ensures at c.read_storey-storey.ensures.fault) r.refusal o.0) in
+    let q = rw (sym c.line_number.ensures ∙ o.1) at (storey-stops (form_number s.form) s.bytes.now a.n a.srows a.mrows c.requires l.numbers l.i l.m l.invariant c.loop-i-test.true _ c.read_storey-storey.ensures.fault r.refusal o.0) in
     grind (arith, common_steps)
 
 pub check_members-requires : goal.check_members-requires
@@ -26,8 +26,8 @@ check_members-requires c =
     let s = a.self.now in
     let l = c.loop-i in
     let o = lined-passed _ c.read_storey-storey.result c.in_ok-storey.storey (sym c.at_line.ensures ∙ c.in_ok-storey.was) in
-    is-due (form_number s.form) s.bytes.now a.n a.srows a.mrows c.requires l.numbers l.i l.m l.invariant c.loop-i-test.true _ (rw c.line_start.ensures at c.read_storey-storey.ensures.fault) (ap fault_of o) c.in_ok-storey.storey
-    (rw (o, c.line_start.ensures) at c.read_storey-storey.ensures.storey) _ c.member_count.ensures
+    is-due (form_number s.form) s.bytes.now a.n a.srows a.mrows c.requires l.numbers l.i l.m l.invariant c.loop-i-test.true _ c.read_storey-storey.ensures.fault (ap fault_of o) c.in_ok-storey.storey
+    (rw o at c.read_storey-storey.ensures.storey) _ c.member_count.ensures
 
 pub returns-in_err-check_members-clause-fault : goal.returns-in_err-check_members-clause-fault
 returns-in_err-check_members-clause-fault c =
@@ -37,8 +37,8 @@ returns-in_err-check_members-clause-fault c =
     let o = lined-passed _ c.read_storey-storey.result c.in_ok-storey.storey (sym c.at_line.ensures ∙ c.in_ok-storey.was) in
     let r = c.in_err-check_members.field-0.0 in
     let q =
-    members-stop (form_number s.form) s.bytes.now a.n a.srows a.mrows c.requires l.numbers l.i l.m l.invariant c.loop-i-test.true _ (rw c.line_start.ensures at c.read_storey-storey.ensures.fault) (ap fault_of o) c.in_ok-storey.storey
-    (rw (o, c.line_start.ensures) at c.read_storey-storey.ensures.storey) _ c.in_err-check_members.ensures (found-number r) in
+    members-stop (form_number s.form) s.bytes.now a.n a.srows a.mrows c.requires l.numbers l.i l.m l.invariant c.loop-i-test.true _ c.read_storey-storey.ensures.fault (ap fault_of o) c.in_ok-storey.storey
+    (rw o at c.read_storey-storey.ensures.storey) _ c.in_err-check_members.ensures (found-number r) in
     grind (arith, common_steps)
 
 pub overflow_add-m : goal.overflow_add-m
@@ -48,8 +48,8 @@ overflow_add-m c =
     let l = c.loop-i in
     let o = lined-passed _ c.read_storey-storey.result c.in_ok-storey.storey (sym c.at_line.ensures ∙ c.in_ok-storey.was) in
     let d =
-    is-due (form_number s.form) s.bytes.now a.n a.srows a.mrows c.requires l.numbers l.i l.m l.invariant c.loop-i-test.true _ (rw c.line_start.ensures at c.read_storey-storey.ensures.fault) (ap fault_of o) c.in_ok-storey.storey
-    (rw (o, c.line_start.ensures) at c.read_storey-storey.ensures.storey) _ c.member_count-m.ensures in
+    is-due (form_number s.form) s.bytes.now a.n a.srows a.mrows c.requires l.numbers l.i l.m l.invariant c.loop-i-test.true _ c.read_storey-storey.ensures.fault (ap fault_of o) c.in_ok-storey.storey
+    (rw o at c.read_storey-storey.ensures.storey) _ c.member_count-m.ensures in
     omega (arith, d.count_most, d.most)
 
 pub loop-i-preserved : goal.loop-i-preserved
@@ -58,5 +58,5 @@ loop-i-preserved c =
     let s = a.self.now in
     let l = c.loop-i in
     let o = lined-passed _ c.read_storey-storey.result c.in_ok-storey.storey (sym c.at_line.ensures ∙ c.in_ok-storey.was) in
-    begun-next (form_number s.form) s.bytes.now a.n a.srows a.mrows c.requires l.numbers l.i l.m l.invariant c.loop-i-test.true _ (rw c.line_start.ensures at c.read_storey-storey.ensures.fault) (ap fault_of o) c.in_ok-storey.storey
-    (rw (o, c.line_start.ensures) at c.read_storey-storey.ensures.storey) _ _ c.in_ok-check_members.ensures refl c.member_count-m.ensures
+    begun-next (form_number s.form) s.bytes.now a.n a.srows a.mrows c.requires l.numbers l.i l.m l.invariant c.loop-i-test.true _ c.read_storey-storey.ensures.fault (ap fault_of o) c.in_ok-storey.storey
+    (rw o at c.read_storey-storey.ensures.storey) _ _ c.in_ok-check_members.ensures refl c.member_count-m.ensures

@@ -9,7 +9,7 @@ pub loop-j-init : goal.loop-j-init
 loop-j-init c = placed-none _ _ _
 
 pub loop-j-preserved : goal.loop-j-preserved
-loop-j-preserved c = placed-step _ _ _ c.loop-j.j _ _ _ c.loop-j.invariant (rw c.line_start.ensures at c.member_at.ensures) (omega arith)
+loop-j-preserved c = placed-step _ _ _ c.loop-j.j _ _ _ c.loop-j.invariant c.member_at.ensures (omega arith)
 
 pub returns : goal.returns
 returns c = let e : c.loop-j.j ≡ length c.args.rows.now = omega arith in rw (← e) (c.loop-j.invariant ∙ placed-all _ no_member c.loop-j.j c.args.rows.now e)

@@ -6,4 +6,4 @@ use Rattle.reading.specs.Filling.{placed}
 use Rattle.reading.proofs.survey.File.fill_members.Given as goal
 
 abbrev pub invariant-loop-j : goal.invariant-loop-j
-invariant-loop-j l = l.rows ≡ placed (λ (j : ℕ). member_at (form_number l.self.form) l.self.bytes.now (line_start (form_number l.self.form) (l.i + 1) (l.m + j))) 0 l.j l.initial.rows
+invariant-loop-j l = l.rows ≡ placed (λ (j : ℕ). member_at (form_number l.self.form) l.self.bytes.now (line_start (form_number l.self.form) (l.storey.storeys + 1) (l.storey.members + j))) 0 l.j l.initial.rows
