@@ -27,7 +27,7 @@ pub record IsStorey (ss : List Storey) (ms : List Member) (i : ℕ) (given : Giv
   pub own : given.1.now ≡ members_of ss ms i
 
 -- the members of a storey after the first
-members-later : (s : Storey) (ss : List Storey) (ms : List Member) (i : ℕ) → members_of ss (drop s.count ms) i ≡ members_of (s ∷ ss) ms (suc i)
+pub members-later : (s : Storey) (ss : List Storey) (ms : List Member) (i : ℕ) → members_of ss (drop s.count ms) i ≡ members_of (s ∷ ss) ms (suc i)
 unfolding members_of
 members-later s ss ms i = rw (before-next s ss i, drop-drop (members_before ss i) s.count ms)
 

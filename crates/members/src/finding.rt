@@ -39,8 +39,8 @@ pub fn judge_case(k: u64, met: bool, m: MemberCase) -> Result<Finding, Refusal>
     ensures { numbered result ≡ case_answer_by published k met m }
 {
     let k = Knowledge::try_from(k)?;
-    let m = GoodCase::try_from(m)?;
-    Ok(m.find(k, met))
+    let good = GoodCase::new(k, m)?;
+    Ok(good.find(met))
 }
 
 // The finding of a member in case c, counted from 0, in which it is good.
@@ -49,7 +49,11 @@ fn find_in_case(k: Knowledge, met: bool, m: &Member, c: usize) -> Finding
     requires { member_case_fault (in_case c m.now) ≡ 0 }
     ensures { result ≡ finding k.hundredths met (in_case c m.now) }
 {
-    GoodCase { case: m.in_case(c) }.find(k, met)
+    let good = GoodCase {
+        case: m.in_case(c),
+        level: k,
+    };
+    good.find(met)
 }
 
 // The findings of a good member in four cases.

@@ -1,4 +1,4 @@
-// A member in a load case that its check refuses nothing of: its class by exact tests, its ratios, its limits, and whether it is over (document 01, "Member").
+// A member in a load case that its check refuses nothing of, judged at the knowledge level of its survey: its class by exact tests, its ratios, its limits, and whether it is over (document 01, "Member").
 ghost use Rattle.std.specs.Prelude.{◌≡◌, ◌≤◌, MatchResult};
 ghost use Rattle.records.specs.Records.{member_case_fault};
 ghost use Rattle.records.specs.Refusals.{refusal_number};
@@ -22,23 +22,21 @@ use validity::check_member_case;
 #[derive(Clone, Copy)]
 pub struct GoodCase {
     pub case: MemberCase,
+    pub level: Knowledge,
     ghost good: { member_case_fault case ≡ 0 },
     ghost sized: { Valid case },
 }
 
-impl TryFrom<MemberCase> for GoodCase {
-    type Error = Refusal;
-
-    ghost try_from_gives = { λ m r. MatchResult r (λ g. g.case ≡ m) (λ e. refusal_number e ≡ member_case_fault m) };
-
-    #[tactic(auto, using(records::proofs::Validity::valid))]
-    fn try_from(m: MemberCase) -> Result<GoodCase, Refusal> {
-        check_member_case(&m)?;
-        Ok(GoodCase { case: m })
-    }
-}
-
 impl GoodCase {
+    // A member in a load case, checked, with the knowledge level of its survey.
+    #[tactic(auto, using(records::proofs::Validity::valid))]
+    pub fn new(level: Knowledge, case: MemberCase) -> Result<GoodCase, Refusal>
+        ensures { MatchResult result (λ g. (g.level ≡ level) × (g.case ≡ case)) (λ e. refusal_number e ≡ member_case_fault case) }
+    {
+        check_member_case(&case)?;
+        Ok(GoodCase { case, level })
+    }
+
     #[tactic(auto, unfolding(crate::specs::Class::detailed))]
     fn is_detailed(&self) -> bool
         ensures { result ≡ detailed self.now.case }
@@ -48,19 +46,19 @@ impl GoodCase {
     }
 
     // Shear demand below capacity, not rounded.
-    fn shear_below(&self, k: Knowledge) -> bool
-        ensures { result ≡ shear_below k.hundredths self.now.case.case.ve self.now.case.case.vr }
+    fn shear_below(&self) -> bool
+        ensures { result ≡ shear_below self.now.level.hundredths self.now.case.case.ve self.now.case.case.vr }
     {
-        100 * self.case.case.ve < k.hundredths * self.case.case.vr
+        100 * self.case.case.ve < self.level.hundredths * self.case.case.vr
     }
 
     #[tactic(auto, unfolding(crate::specs::Class::column_class))]
-    fn column_class(&self, k: Knowledge) -> Class
-        ensures { result ≡ column_class (detailed self.now.case) k.hundredths self.now.case.case.ve self.now.case.case.vr }
+    fn column_class(&self) -> Class
+        ensures { result ≡ column_class (detailed self.now.case) self.now.level.hundredths self.now.case.case.ve self.now.case.case.vr }
     {
         let detailed = self.is_detailed();
         let demand = 1_000 * self.case.case.ve;
-        let capacity = k.hundredths * self.case.case.vr;
+        let capacity = self.level.hundredths * self.case.case.vr;
         if demand <= 7 * capacity {
             if detailed {
                 Class::ColumnA
@@ -75,25 +73,25 @@ impl GoodCase {
     }
 
     #[tactic(auto, unfolding(crate::specs::Class::wall_class))]
-    fn wall_class(&self, k: Knowledge) -> Class
-        ensures { result ≡ wall_class self.now.case.height self.now.case.long k.hundredths self.now.case.case.ve self.now.case.case.vr }
+    fn wall_class(&self) -> Class
+        ensures { result ≡ wall_class self.now.case.height self.now.case.long self.now.level.hundredths self.now.case.case.ve self.now.case.case.vr }
     {
-        if 2 * self.case.long <= self.case.height && self.shear_below(k) {
+        if 2 * self.case.long <= self.case.height && self.shear_below() {
             Class::WallA
         } else {
             Class::WallB
         }
     }
 
-    // The class at the knowledge level k.
+    // The class at its knowledge level.
     #[tactic(auto, unfolding(crate::specs::Class::class_of))]
-    fn class(&self, k: Knowledge) -> Class
-        ensures { result ≡ class_of k.hundredths self.now.case }
+    fn class(&self) -> Class
+        ensures { result ≡ class_of self.now.level.hundredths self.now.case }
     {
         if is_wall(&self.case) {
-            self.wall_class(k)
+            self.wall_class()
         } else {
-            self.column_class(k)
+            self.column_class()
         }
     }
 
@@ -108,11 +106,11 @@ impl GoodCase {
     }
 
     #[tactic(auto, unfolding(crate::specs::Finding::moment))]
-    fn moment_ratio(&self, k: Knowledge) -> Ratio
-        ensures { result ≡ moment_ratio k.hundredths self.now.case }
+    fn moment_ratio(&self) -> Ratio
+        ensures { result ≡ moment_ratio self.now.level.hundredths self.now.case }
     {
         let case = &self.case.case;
-        Ratio::up(case.me * 100, k.hundredths * case.mp)
+        Ratio::up(case.me * 100, self.level.hundredths * case.mp)
     }
 
     #[tactic(auto, unfolding(crate::specs::Finding::stress))]
@@ -144,10 +142,10 @@ impl GoodCase {
 
     // The m test is dropped for a wall of little drift and shear in a storey that meets the 0.40 condition.
     #[tactic(auto, unfolding(crate::specs::Finding::m_dropped_of))]
-    fn m_dropped(&self, k: Knowledge, met: bool) -> bool
-        ensures { result ≡ m_dropped_of k.hundredths met self.now.case }
+    fn m_dropped(&self, met: bool) -> bool
+        ensures { result ≡ m_dropped_of self.now.level.hundredths met self.now.case }
     {
-        met && is_wall(&self.case) && self.case.case.drift < 7_500 && self.shear_below(k)
+        met && is_wall(&self.case) && self.case.case.drift < 7_500 && self.shear_below()
     }
 
     // The published limits of a class at ratios, by the marks of the member.
@@ -176,15 +174,15 @@ impl GoodCase {
 
     // The finding: met says whether its storey meets the 0.40 condition in the load case.
     #[tactic(auto, using(crate::proofs::Rounding::rotation_kept), unfolding(crate::specs::Finding::finding_by, crate::specs::Finding::is_over, crate::specs::Finding::m_limit_of, crate::specs::Finding::rotation_limit_of, crate::specs::Assembly::ratios))]
-    pub fn find(&self, k: Knowledge, met: bool) -> Finding
-        ensures { result ≡ finding k.hundredths met self.now.case }
+    pub fn find(&self, met: bool) -> Finding
+        ensures { result ≡ finding self.now.level.hundredths met self.now.case }
     {
-        let class = self.class(k);
+        let class = self.class();
         let at = self.ratios();
-        let m = self.moment_ratio(k);
+        let m = self.moment_ratio();
         let limits = self.limits(class, &at);
         let rotation = Microradians::steps(self.case.case.rotation, 1);
-        let m_dropped = self.m_dropped(k, met);
+        let m_dropped = self.m_dropped(met);
         let over_m = !m_dropped && limits.m.0 < m.0;
         let over_rotation = limits.rotation.0 < rotation.0;
         Finding {

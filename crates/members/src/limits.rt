@@ -7,6 +7,7 @@ ghost use Rattle.members.specs.Sizes.{Places2, Most2, SizedRows, SizedPlaces, Si
 use crate::class::Class;
 use crate::tables::{Places, Table};
 use crate::units::{HoopRatio, Microradians, Ratio};
+use std::array;
 
 // The ratios by which limits are read.
 #[derive(Clone, Copy)]
@@ -149,12 +150,7 @@ impl PlacedTable<'_> {
         let hoops = &self.places.hoops;
         let first = &self.table.b1;
         let second = &self.table.b2;
-        let limits = [
-            blend(hoops, first[0], second[0], rho),
-            blend(hoops, first[1], second[1], rho),
-            blend(hoops, first[2], second[2], rho),
-            blend(hoops, first[3], second[3], rho),
-        ];
+        let limits = array::from_fn(|i| blend(hoops, first[i], second[i], rho));
         interpolate(&self.places.axial, &limits, n).per(gap(hoops))
     }
 
@@ -173,10 +169,8 @@ impl PlacedTable<'_> {
         ensures { result ≡ wall_rows self.now.places.now y1.now y2.now n v }
     {
         let stress = &self.places.stress;
-        let limits = [
-            blend(stress, y1[0], y1[1], v),
-            blend(stress, y2[0], y2[1], v),
-        ];
+        let rows = [y1, y2];
+        let limits = array::from_fn(|i| blend(stress, rows[i][0], rows[i][1], v));
         interpolate(&self.places.walls, &limits, n).per(gap(stress))
     }
 

@@ -93,8 +93,9 @@ impl StoreyCase<'_> {
         for m in self.good.members {
             let one = GoodCase {
                 case: m.in_case(self.case),
+                level: self.good.level,
             };
-            let finding = one.find(self.good.level, met);
+            let finding = one.find(met);
             self.put_member_line(writer, m.number, &finding);
             tally = tally.with_finding(&finding, &one.case);
         }

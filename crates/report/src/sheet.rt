@@ -42,14 +42,8 @@ fn put_storeys(writer: &mut ColumnWriter, good: &GoodSurvey) -> bool
     ensures written { Written (sheet_storeys (records_of good.now.survey)) writer.old writer.new }
 {
     let mut risky = false;
-    for (storey, members) in good.survey.storey_rows() {
-        let own = GoodStorey {
-            form: good.form,
-            level: good.level,
-            storey,
-            members,
-        };
-        risky |= put_storey(writer, &own);
+    for storey in good.storeys() {
+        risky |= put_storey(writer, &storey);
     }
     risky
 }

@@ -5,5 +5,6 @@ pub mod Called
 pub mod Verdicts
 pub mod Shears
 pub mod Cases
+pub mod GoodStoreys
 pub mod FirstRisky
 pub mod Returned

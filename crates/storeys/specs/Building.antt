@@ -1,12 +1,12 @@
 -- The judgment of a building (document 01, "Storey and building", "Refusals as returned"): any survey.
 use Rattle.std.specs.Prelude.{◌+◌, ◌<◌, ◌||◌, ◌∷◌, ◌≡◌}
-use Rattle.records.specs.Notation.{ℕ, zero, suc, max, Bool, true, false, List, [], ltb, eqb, length, pick, any_below}
+use Rattle.records.specs.Notation.{ℕ, max, Bool, true, false, List, [], ltb, eqb, length, pick, any_below}
 use Rattle.checks.specs.Rows.{Header, Storey, Member, Survey, records_fault, storey_in, members_of}
 use Rattle.members.specs.Finding.{flag, Returned, found, refused}
 use Rattle.storeys.specs.Storey.{Rules, storey_risky}
-use Rattle.std.specs.Prelude.{Result, Ok, Err, Option, Some, None}
-use Rattle.std.specs.Option.{ForSome}
-use Rattle.std.proofs.Common.{arith, rules, ap}
+use Rattle.std.specs.Prelude.{Result, Ok, Err}
+pub use Rattle.storeys.specs.Place.{storey_named, place_of}
+pub use Rattle.storeys.specs.Counted.{named-counted}
 use Rattle.storeys.specs.declared.BuildingFinding.{BuildingFinding}
 
 -- storey i is Risky
@@ -27,19 +27,6 @@ some_risky rules a = any_below (risky_at rules a.header.form a.header.knowledge 
 -- "A building is Risky when a storey is, or the larger tilt exceeds 25,000"
 unfoldable pub building_risky : Rules → Survey → Bool
 building_risky rules a = some_risky rules a || tilted a.header
-
--- a storey named by its place, counted from 1; 0 names none
-abbrev pub storey_named : ℕ → Option ℕ
-storey_named zero = None
-storey_named (suc n) = Some (suc n)
-
-abbrev pub place_of : Option ℕ → ℕ
-place_of None = 0
-place_of (Some n) = n
-
-pub named-counted : (place : ℕ) → ForSome (storey_named place) (λ n. 0 < n)
-named-counted zero n e = search rules
-named-counted (suc i) n e = omega (arith, ap place_of e)
 
 -- the finding, with the place that it names; before it the refusals of the records
 unfoldable pub building_answer_by : Rules → Survey → ℕ → Result BuildingFinding ℕ

@@ -7,7 +7,7 @@ use Rattle.checks.specs.Rows.{count_fault, member_rows_fault}
 use Rattle.members.specs.{declared.tables.Share.Share, declared.tables.LimitSet.LimitSet, Tables.published, Tables.published_share}
 use Rattle.members.specs.Finding.{axial, finding_by, knowledge, flag, Returned, found, refused}
 use Rattle.totals.specs.{declared.StoreyFinding.StoreyFinding, Share.exceeds_share, Share.share_of, Totals.wall_shear}
-use Rattle.std.specs.Prelude.{Result, Ok, Err, slice_index}
+use Rattle.std.specs.Prelude.{Result, Ok, Err}
 use Rattle.records.specs.declared.by_case.{FourCases.FourCases, ByForm.ByForm, ByForm.TheVariants.One, ByForm.TheVariants.Four}
 use Rattle.storeys.specs.declared.StoreyJudgment.{StoreyJudgment}
 

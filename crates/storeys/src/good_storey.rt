@@ -34,8 +34,11 @@ impl GoodStorey<'_> {
     {
         let mut tally = Tally::none();
         for m in self.members {
-            let one = GoodCase { case: m.in_case(c) };
-            let finding = one.find(self.level, met);
+            let one = GoodCase {
+                case: m.in_case(c),
+                level: self.level,
+            };
+            let finding = one.find(met);
             tally = tally.with_finding(&finding, &one.case);
         }
         tally

@@ -4,9 +4,11 @@ ghost use Rattle.records.specs.Forms.{form_number};
 ghost use Rattle.records.specs.Refusals.{refusal_number};
 ghost use Rattle.checks.specs.Rows.{records_fault};
 ghost use Rattle.checks.specs.RowChecks.{records_of};
+ghost use Rattle.checks.specs.RowsInTurn.{storeys_left, members_left};
 ghost use Rattle.storeys.specs.FirstRisky.{FirstRisky};
+ghost use Rattle.storeys.specs.GoodStoreys.{rows_left, form_of, level_of};
 
-use crate::good_storey::GoodStorey;
+use crate::good_storeys::GoodStoreys;
 use checks::Survey;
 use members::knowledge::Knowledge;
 use records::form::Form;
@@ -42,21 +44,26 @@ impl<'a> TryFrom<Survey<'a>> for GoodSurvey<'a> {
 }
 
 impl GoodSurvey<'_> {
+    // Each storey with its own members.
+    #[tactic(auto, using(crate::proofs::GoodStoreys::rows_good))]
+    pub fn storeys(&self) -> GoodStoreys<'_>
+        ensures storeys { storeys_left (rows_left result) ≡ self.now.survey.storeys.now }
+        ensures members { members_left (rows_left result) ≡ self.now.survey.members.now }
+        ensures form { form_of result ≡ self.now.form }
+        ensures level { level_of result ≡ self.now.level }
+    {
+        GoodStoreys {
+            rows: self.survey.storey_rows(),
+            form: self.form,
+            level: self.level,
+        }
+    }
+
     // The place of the first Risky storey, counted from 1, where there is one.
     pub fn first_risky(&self) -> Option<u64>
         ensures { FirstRisky (records_of self.now.survey) result }
     {
-        for (i, (storey, members)) in self.survey.storey_rows().enumerate() {
-            let good = GoodStorey {
-                form: self.form,
-                level: self.level,
-                storey,
-                members,
-            };
-            if good.is_risky() {
-                return Some(i as u64 + 1);
-            }
-        }
-        None
+        let i = self.storeys().position(|s| s.is_risky())?;
+        Some(i as u64 + 1)
     }
 }

@@ -7,6 +7,7 @@ ghost use Rattle.std.specs.Option.{ForSome};
 
 pub mod building;
 pub mod good_storey;
+pub mod good_storeys;
 pub mod good_survey;
 pub mod storey;
 
