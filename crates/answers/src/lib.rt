@@ -4,28 +4,52 @@
 pub mod site;
 pub mod survey;
 
-ghost use Rattle.std.specs.Prelude.{◌≡◌, ◌+◌, ◌≤◌, length};
+ghost use Rattle.std.specs.Prelude.{◌≡◌, ℕ, ◌++◌, List};
+ghost use Rattle.records.specs.Refusals.{numbered};
 ghost use Rattle.columns.specs.Line.{at_front};
-ghost use Rattle.columns.specs.Bytes.{stamped};
+ghost use Rattle.answers.specs.Packing.{packed};
+ghost use Rattle.answers.specs.Values.{returned_by};
 
-// Writes numbers from a place on.
-pub(crate) fn put_words_at(out: &mut [u64], at: usize, words: &[u64])
-    requires { at + length words.now ≤ length out.old }
-    ensures { out.new ≡ stamped out.old at words.now }
-{
-    let mut i = 0;
-    while i < words.len() {
-        out[at + i] = words[i];
-        i += 1;
-    }
+use records::refusal::Refusal;
+
+// An answer that is told in numbers.
+pub trait Values {
+    ghost values: { Self → List ℕ };
+
+    // Puts them to the front of a buffer that holds them, and else nothing.
+    fn put(&self, out: &mut [u64])
+        ensures { out.new ≡ at_front (values self.now) out.old };
 }
 
 // Writes numbers to the front of a buffer that holds them, and else nothing.
 pub fn put_words(out: &mut [u64], words: &[u64])
     ensures { out.new ≡ at_front words.now out.old }
 {
-    if out.len() < words.len() {
-        return;
+    if words.len() <= out.len() {
+        out[..words.len()].copy_from_slice(words);
     }
-    put_words_at(out, 0, words);
+}
+
+// Writes numbers, then others, to the front of a buffer that holds them all, and else nothing.
+pub(crate) fn put_parts(out: &mut [u64], first: &[u64], rest: &[u64])
+    ensures { out.new ≡ at_front (first.now ++ rest.now) out.old }
+{
+    if first.len() + rest.len() <= out.len() {
+        put_words(out, first);
+        put_words(&mut out[first.len()..], rest);
+    }
+}
+
+// Puts the numbers of an accepted answer to the front of `out`. Gives the refusal, 0 where there is none.
+pub fn put_answer<A: Values + Drop>(out: &mut [u64], answer: Result<A, Refusal>) -> u64
+    ensures value { result ≡ packed (returned_by A.values (numbered answer)) }
+    ensures out_after { out.new ≡ at_front (returned_by A.values (numbered answer)).values out.old }
+{
+    match answer {
+        Ok(a) => {
+            a.put(out);
+            0
+        }
+        Err(refusal) => refusal.number(),
+    }
 }

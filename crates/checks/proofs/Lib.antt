@@ -1,3 +1,6 @@
 pub mod Refusals
+pub mod Counts
+pub mod OtherForms
 pub mod RowLaws
 pub mod RowLoops
+pub mod RowsInTurn

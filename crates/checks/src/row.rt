@@ -1,55 +1,71 @@
-// One record by itself: what the checks over rows do with each.
-ghost use Rattle.std.specs.Prelude.{◌≡◌, [], ◌∷◌};
-ghost use Rattle.records.specs.Notation.{in_order};
+// A record of a survey among those of its kind.
+ghost use Rattle.std.specs.Prelude.{◌≡◌, ℕ, [], ◌∷◌, eqb};
+ghost use Rattle.std.specs.List.{list_any};
+ghost use Rattle.records.specs.Notation.{pick, in_order};
+ghost use Rattle.records.specs.Forms.{form_number};
+ghost use Rattle.records.specs.Refusals.{fault_of};
 ghost use Rattle.records.specs.Records.{storey_fault, member_fault};
-ghost use Rattle.checks.specs.RowChecks.{header_call_fault};
 
-use records::{Header, Member, Storey};
-use validity::{header_fault, member_fault, storey_fault};
+use records::form::Form;
+use records::refusal::Refusal;
+use records::{Member, Storey};
+use validity::{check_member, check_storey};
 
-pub(crate) fn number_of(m: Member) -> u64
-    ensures { result ≡ m.number }
-{
-    m.number
+// A record with a number, and with a check of its own.
+pub(crate) trait Row {
+    ghost number_of: { Self → ℕ };
+
+    ghost fault_in: { ℕ → Self → ℕ };
+
+    fn number(&self) -> u64
+        ensures { result ≡ number_of self.now };
+
+    fn check(&self, form: Form) -> Result<(), Refusal>
+        ensures { fault_of result ≡ fault_in (form_number form) self.now };
 }
 
-pub(crate) fn storey_number(s: Storey) -> u64
-    ensures { result ≡ s.number }
-{
-    s.number
+impl Row for Storey {
+    ghost number_of = { λ s. s.number };
+
+    ghost fault_in = { storey_fault };
+
+    fn number(&self) -> u64 {
+        self.number // field 1 of an S line
+    }
+
+    fn check(&self, form: Form) -> Result<(), Refusal> {
+        check_storey(form, self)
+    }
 }
 
-// A member's 3 and 4 in its form, then the 5 that is handed in.
-pub(crate) fn row_fault(form: u64, m: Member, repeated: u64) -> u64
-    ensures { result ≡ in_order (member_fault form m ∷ repeated ∷ []) }
-{
-    let f = member_fault(form, m);
-    if f != 0 {
-        return f;
+impl Row for Member {
+    ghost number_of = { λ m. m.number };
+
+    ghost fault_in = { member_fault };
+
+    fn number(&self) -> u64 {
+        self.number // field 1 of an M line
     }
-    repeated
+
+    fn check(&self, form: Form) -> Result<(), Refusal> {
+        check_member(form, self)
+    }
 }
 
-// A storey's 3 in its form, then the 5 that is handed in.
-pub(crate) fn storey_row_fault(form: u64, s: Storey, repeated: u64) -> u64
-    ensures { result ≡ in_order (storey_fault form s ∷ repeated ∷ []) }
+// One of some records has the number.
+fn is_taken<R: Row>(before: &[R], number: u64) -> bool
+    ensures { result ≡ list_any (λ r. eqb (R.number_of r) number) before.now }
 {
-    let f = storey_fault(form, s);
-    if f != 0 {
-        return f;
-    }
-    repeated
+    before.iter().any(|r| r.number() == number)
 }
 
-// The refusals of a survey before its rows': 1, and the header's 3 and 7.
-pub(crate) fn header_call_fault(h: Header, storeys: usize, fit: bool) -> u64
-    ensures { result ≡ header_call_fault h storeys fit }
+// A record of a form after others: its own 3 and 4, then 5 where its number is that of one before it.
+pub(crate) fn check_among<R: Row>(form: Form, before: &[R], row: &R) -> Result<(), Refusal>
+    ensures { fault_of result ≡ in_order (R.fault_in (form_number form) row.now ∷ pick (list_any (λ r. eqb (R.number_of r) (R.number_of row.now)) before.now) 5 0 ∷ []) }
 {
-    if h.count != storeys as u64 {
-        return 1;
+    row.check(form)?;
+    if is_taken(before, row.number()) {
+        return Err(Refusal::NumberRepeated);
     }
-    if !fit {
-        return 1;
-    }
-    header_fault(h)
+    Ok(())
 }

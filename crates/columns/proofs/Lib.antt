@@ -1,3 +1,2 @@
 pub mod Stamps
-pub mod Digits
-pub mod Fields
+pub mod Written

@@ -1,18 +1,19 @@
 -- Laws of bytes put in the place of others, and of the lines' lengths.
-use Prim.Native.Nat.{ℕ, ◌+◌, ◌*◌, ◌≤◌, ◌<◌}
+use Prim.Native.Nat.{ℕ, suc, ◌+◌, ◌*◌, ◌≤◌}
 use native.Mathlib.Omega.{arith}
 use native.Mathlib.Numerals.{add-one}
 use mathlib.Core.Bool.{Bool, true, false}
 use mathlib.Core.List.{List, [], ◌∷◌, ◌++◌, append_assoc}
 use mathlib.Core.Path.{◌≡◌, refl, ap, sym, ◌∙◌}
 use lib.Dec.{leb}
-use lib.ListN.{length, drop, set, get_or, length-set, length-append, drop_of_length-le}
-use lib.Seq.{drop-cons, set-append_seam, append_snoc}
+use lib.ListN.{length, take, drop, set, length-set, length-append}
+use lib.Seq.{drop-drop, take-set-le, drop-set-lt, sets, sets-eq}
+use borrow.Author.Tests.{le-leb, leb-true}
+use borrow.Rule.Slice.PartMut.{put_mid}
 use Rattle.records.specs.Notation.{pick}
 use Rattle.format.specs.Spelling.{spelled}
 use Rattle.format.proofs.Typed.{length-spelled}
-use borrow.Author.Tests.{le-leb, leb-true}
-use Rattle.columns.specs.Line.{printed_numbers, line, at_front, put_length}
+use Rattle.columns.specs.Line.{printed_numbers, line, at_front}
 use Rattle.columns.specs.Bytes.{stamped, put_at, place_after}
 
 pub length-stamped : (xs bytes : List ℕ) (at : ℕ) → length (stamped bytes at xs) ≡ length bytes
@@ -27,28 +28,39 @@ pub stamped-none : (bytes : List ℕ) (at : ℕ) → stamped bytes at [] ≡ byt
 unfolding stamped
 stamped-none bytes at = refl
 
-pub stamped-byte : (bytes : List ℕ) (at x : ℕ) (xs : List ℕ) → stamped (set bytes at x) (at + 1) xs ≡ stamped bytes at (x ∷ xs)
-unfolding stamped
-stamped-byte bytes at x xs = refl
-
 -- one text after another
 pub stamped-both : (xs ys bytes : List ℕ) (at next : ℕ) → next ≡ at + length xs → stamped (stamped bytes at xs) next ys ≡ stamped bytes at (xs ++ ys)
 unfolding stamped
 stamped-both [] ys bytes at next e = let q : next ≡ at = omega arith in rw q
 stamped-both (x ∷ xs) ys bytes at next e = stamped-both xs ys (set bytes at x) (at + 1) next (omega arith)
 
--- from the front: the text, and the bytes after it as they were
-stamped-after : (xs before bytes : List ℕ) → length xs ≤ length bytes → stamped (before ++ bytes) (length before) xs ≡ before ++ (xs ++ drop (length xs) bytes)
+-- the bytes before a text that is put, and those after it
+pub before_text : (xs bytes : List ℕ) (n at : ℕ) → n ≤ at → take n (stamped bytes at xs) ≡ take n bytes
 unfolding stamped
-stamped-after [] before bytes h = refl
-stamped-after (x ∷ xs) before [] h = let z : ⊥ = omega arith in absurd z
-stamped-after (x ∷ xs) before (b ∷ bytes) h =
-    let e : length before + 1 ≡ length (before ++ (x ∷ [])) = omega (arith, length-append before (x ∷ [])) in
-    rw (set-append_seam before b bytes x, ← append_snoc before x bytes, e)
-    (stamped-after xs (before ++ (x ∷ [])) bytes (omega arith) ∙ append_snoc before x (xs ++ drop (length xs) bytes))
+before_text [] bytes n at h = refl
+before_text (x ∷ xs) bytes n at h = before_text xs (set bytes at x) n (at + 1) (omega arith) ∙ take-set-le n bytes at x h
+
+pub after_text : (xs bytes : List ℕ) (n at : ℕ) → at + length xs ≤ n → drop n (stamped bytes at xs) ≡ drop n bytes
+unfolding stamped
+after_text [] bytes n at h = refl
+after_text (x ∷ xs) bytes n at h = after_text xs (set bytes at x) n (at + 1) (omega arith) ∙ drop-set-lt n bytes at x (omega arith)
+
+-- the library's words for the same
+stamped-sets : (xs bytes : List ℕ) (at : ℕ) → stamped bytes at xs ≡ sets bytes at xs
+unfolding stamped
+stamped-sets [] bytes at = refl
+stamped-sets (x ∷ xs) bytes at = rw add-one (stamped-sets xs (set bytes at x) (suc at))
+
+-- a text that fits: the bytes before it, the text, and the bytes after it
+pub stamped-parts : (xs bytes : List ℕ) (at : ℕ) → at + length xs ≤ length bytes → stamped bytes at xs ≡ take at bytes ++ (xs ++ drop (at + length xs) bytes)
+stamped-parts xs bytes at h = stamped-sets xs bytes at ∙ sets-eq xs bytes at h ∙ append_assoc (take at bytes) xs (drop (at + length xs) bytes)
 
 pub stamped-front : (xs bytes : List ℕ) → length xs ≤ length bytes → stamped bytes 0 xs ≡ xs ++ drop (length xs) bytes
-stamped-front xs bytes h = stamped-after xs [] bytes h
+stamped-front xs bytes h = let z : 0 + length xs ≡ length xs = omega arith in rw z at (stamped-parts xs bytes 0 (omega arith))
+
+-- so many bytes from a place on, which become the text
+pub stamped-part : (xs part bytes : List ℕ) (at n : ℕ) → part ≡ xs → length xs ≡ n → at + n ≤ length bytes → put_mid at n bytes part ≡ stamped bytes at xs
+stamped-part xs part bytes at n e l h = rw (e, ← l, drop-drop) (sym (stamped-parts xs bytes at (omega arith)))
 
 -- a text put from the front
 module _ (text bytes : List ℕ) where
@@ -58,9 +70,6 @@ module _ (text bytes : List ℕ) where
 
   pub put_front : put_at text 0 bytes ≡ at_front text bytes
   put_front = let z : 0 + length text ≡ length text = omega arith in rw z (put-front-by (leb (length text) (length bytes)) refl)
-
-  pub place-front : place_after text 0 (length bytes) ≡ put_length text (length bytes)
-  place-front = let z : 0 + length text ≡ length text = omega arith in rw z
 
 -- a text that fits from a place on
 module _ (text bytes : List ℕ) (at : ℕ) where
@@ -72,15 +81,6 @@ module _ (text bytes : List ℕ) (at : ℕ) where
 
 -- ---- the loops
 
--- the bytes of a text, one by one
-pub text-next : (out before text : List ℕ) (at i v : ℕ) → stamped out (at + i) (drop i text) ≡ stamped before at text → i < length text → v ≡ get_or text i 0 → stamped (set out (at + i) v) (at + (i + 1)) (drop (i + 1) text) ≡ stamped before at text
-text-next out before text at i v e h q =
-    let p : at + (i + 1) ≡ (at + i) + 1 = omega arith in
-    rw (q, p, stamped-byte, add-one i) (rw (drop-cons text i 0 h) at e)
-
-pub text-end : (out before text : List ℕ) (at i p : ℕ) → stamped out p (drop i text) ≡ stamped before at text → length text ≤ i → out ≡ stamped before at text
-text-end out before text at i p e h = sym (stamped-none out p) ∙ (rw (drop_of_length-le text h) at e)
-
 pub length-printed-numbers : (ns : List ℕ) → length (printed_numbers ns) ≡ 12 * length ns
 unfolding printed_numbers
 length-printed-numbers [] = refl
@@ -89,22 +89,3 @@ length-printed-numbers (n ∷ ns) = omega (arith, length-append (spelled 12 32 n
 pub length-line : (tag ns : List ℕ) → length (line tag ns) ≡ length tag + (12 * length ns + 1)
 unfolding line
 length-line tag ns = omega (arith, length-append tag (printed_numbers ns ++ (10 ∷ [])), length-append (printed_numbers ns) (10 ∷ []), length-printed-numbers ns)
-
--- the fields of a line, one by one
-pub printed-numbers-next : (out before turned ns : List ℕ) (p next i : ℕ) → stamped out p (printed_numbers (drop i ns)) ≡ before → i < length ns → turned ≡ stamped out p (spelled 12 32 (get_or ns i 0)) → next ≡ p + 12 → stamped turned next (printed_numbers (drop (i + 1) ns)) ≡ before
-unfolding printed_numbers
-printed-numbers-next out before turned ns p next i e h q l =
-    rw (q, stamped-both (spelled 12 32 (get_or ns i 0)) (printed_numbers (drop (i + 1) ns)) out p next (omega (arith, length-spelled 12 32 (get_or ns i 0))), add-one i)
-    (rw (drop-cons ns i 0 h) at e)
-
-pub printed-numbers-end : (out before ns : List ℕ) (p i : ℕ) → stamped out p (printed_numbers (drop i ns)) ≡ before → length ns ≤ i → out ≡ before
-unfolding printed_numbers
-printed-numbers-end out before ns p i e h = sym (stamped-none out p) ∙ (rw (drop_of_length-le ns h) at e)
-
--- tag, fields and LF are a line
-pub line-done : (bytes tagged filled ended tag ns lf : List ℕ) (at p q : ℕ) → tagged ≡ stamped bytes at tag → p ≡ at + length tag → filled ≡ stamped tagged p (printed_numbers ns) → q ≡ p + 12 * length ns → ended ≡ stamped filled q lf → lf ≡ 10 ∷ [] → ended ≡ stamped bytes at (line tag ns)
-unfolding line
-line-done bytes tagged filled ended tag ns lf at p q a b c d e f =
-    e
-    ∙ rw (c, a, f, stamped-both tag (printed_numbers ns) bytes at p b)
-    (stamped-both (tag ++ printed_numbers ns) (10 ∷ []) bytes at q (omega (arith, length-append tag (printed_numbers ns), length-printed-numbers ns, b, d)) ∙ rw append_assoc)

@@ -1,5 +1,5 @@
--- Bytes put in the place of others: what a call that puts a line promises, and the digits while they are put.
-use Rattle.std.specs.Prelude.{ℕ, zero, suc, ◌+◌, ◌/◌, ◌%◌, List, [], ◌∷◌, ◌≡◌, leb, ltb, length, take, drop, set}
+-- Bytes put in the place of others: what a writer of columns promises of the bytes lent to it.
+use Rattle.std.specs.Prelude.{ℕ, ◌+◌, List, [], ◌∷◌, ◌≡◌, leb, length, take, drop, set}
 use Rattle.records.specs.Notation.{pick}
 
 -- the bytes with others in the place of those from `at` on
@@ -19,15 +19,3 @@ place_after text at room = pick (leb (at + length text) room) (at + length text)
 pub record KeptOutside (at width : ℕ) (before after : List ℕ) : Type 0 where
   pub left : take at after ≡ take at before
   pub right : drop (at + width) after ≡ drop (at + width) before
-
--- the sign in the column before at + w, where there is one
-unfoldable pub sign_over : List ℕ → ℕ → ℕ → ℕ → List ℕ
-sign_over bytes at zero sign = bytes
-sign_over bytes at (suc w) sign = set bytes (at + w) sign
-
--- the digits of n over the bytes before at + w, the last first, at most w of them, then the sign
-unfoldable pub digits_over : List ℕ → ℕ → ℕ → ℕ → ℕ → List ℕ
-digits_over bytes at zero sign n = bytes
-digits_over bytes at (suc w) sign n =
-    let written = set bytes (at + w) (48 + n % 10) in
-    pick (ltb n 10) (sign_over written at w sign) (digits_over written at w sign (n / 10))

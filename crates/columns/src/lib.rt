@@ -1,4 +1,4 @@
 // Putting text and numbers in columns into lent bytes.
 #![tactic(auto)]
 
-pub mod line;
+pub mod writer;

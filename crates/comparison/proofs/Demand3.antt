@@ -2,23 +2,23 @@
 use Prim.Native.Nat.{ℕ, zero, suc, ◌≤◌, ◌<◌, max}
 use native.Mathlib.Nat.{le_refl}
 use native.Mathlib.Omega.{arith}
-use mathlib.Core.Bool.{Bool, true, ◌||◌, or-false, or_assoc}
+use mathlib.Core.Bool.{Bool, true, ◌||◌, or-false}
 use mathlib.Core.List.{List, [], ◌∷◌, ◌++◌}
 use mathlib.Core.Path.{◌≡◌, refl, sym, subst, ◌∙◌}
 use lib.ListN.{length}
+use Rattle.std.specs.List.{All}
 use Rattle.records.specs.Notation.{any_below, listed, any_of}
 use Rattle.records.specs.Records.{case_count, shear_of, in_case, member_fault}
 use Rattle.records.proofs.Validity.{valid, case-good}
 use Rattle.members.specs.Finding.{answer_by}
 use Rattle.members.proofs.Order.{published-ordered}
-use Rattle.storeys.specs.declared.BuildingAnswer.{BuildingAnswer}
 use Rattle.storeys.specs.Storey.{Rules, published_rules, meets_wall_share, over, case_risky, storey_risky, storey_answer_by}
-use Rattle.comparison.specs.Orderly.{orderly, LimitsFall}
 use Rattle.storeys.specs.Building.{risky_at, some_risky, building_risky, tilted}
+use Rattle.comparison.specs.Orderly.{orderly, LimitsFall}
 use Rattle.comparison.specs.Pairing.{EveryPair}
-use Rattle.comparison.specs.Demand3.{WallCondition, SameClass, Survey, StoreyMembers, storey_members_at, storeys_members, Accepted, over_in, risky_in, case_risky_in, storey_met, storey_mets, Over, Risky, CaseRisky, MemberPairs, StoreyPairs, AtLeastAsSevere, AtLeastAsSevereStorey, NowhereBetter, Carried, Demand3By, Demand3}
+use Rattle.comparison.specs.Demand3.{BuildingAnswer, WallCondition, SameClass, Survey, StoreyMembers, storey_members_at, storeys_members, Accepted, over_in, risky_in, case_risky_in, storey_met, storey_mets, Over, Risky, CaseRisky, MemberPairs, StoreyPairs, AtLeastAsSevere, AtLeastAsSevereStorey, NowhereBetter, Carried, Demand3By, Demand3}
 use Rattle.comparison.proofs.Tests.{or-carried, excess-carried, at-equals, any-carried}
-use Rattle.comparison.proofs.Pairs.{All, each, both, for-each, of-all, some-carried}
+use Rattle.comparison.proofs.Pairs.{each, both, for-each, of-all, some-carried}
 use Rattle.comparison.proofs.Partners.{same_class}
 use Rattle.comparison.proofs.Storeys.{Orderly, rules-ordered, Known, overs-carried, risky-carried}
 use Rattle.comparison.proofs.Accepted.{Sound, level-positive, has-members, good-members, risky-found, case-found, over-found, verdict-found, level-known, sound-storeys}
@@ -75,7 +75,7 @@ module _ (walls : WallCondition) (rules : Rules) (good : Orderly rules) (falls :
 some_after : {A : Type 0} (p : A → Bool) (xs : List A) (x : A) → any_of p (xs ++ (x ∷ [])) ≡ (any_of p xs || p x)
 unfolding any_of
 some_after p [] x = or-false (p x)
-some_after p (y ∷ xs) x = rw (some_after p xs x) (sym (or_assoc (p y) (any_of p xs) (p x)))
+some_after p (y ∷ xs) x = grind (arith, some_after p xs x)
 
 some-listed : {A : Type 0} (p : A → Bool) (f : ℕ → A) (n : ℕ) → any_of p (listed f n) ≡ any_below (λ i. p (f i)) n
 unfolding any_of listed any_below
@@ -103,10 +103,10 @@ module _ (walls : WallCondition) (rules : Rules) (good : Orderly rules) (falls :
   level = a.header.knowledge
 
   same-level : level ≡ b.header.knowledge
-  same-level = omega (arith, worse.knowledge)
+  same-level = omega arith
 
   same-form : form ≡ b.header.form
-  same-form = omega (arith, worse.form)
+  same-form = omega arith
 
   positive : 0 < level
   positive = level-positive level (level-known rules a r ra)

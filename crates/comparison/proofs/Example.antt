@@ -5,26 +5,24 @@ use native.Mathlib.Omega.{arith}
 use mathlib.Core.Bool.{true, false}
 use mathlib.Core.List.{[], ◌∷◌}
 use mathlib.Core.Path.{◌≡◌, refl}
+use lib.ListN.{get_or}
+use Rattle.std.specs.Prelude.{Ok, Some}
 use Rattle.records.specs.Notation.{every_below, any_below, first, listed, total, any_of}
 use Rattle.records.specs.Records.{zero_force, no_case, header_fault, storey_fault, is_blank, member_fault, in_case}
-use lib.ListN.{get_or}
 use Rattle.records.specs.declared.LoadCase.{LoadCase}
 use Rattle.records.specs.declared.Member.{Member}
+use Rattle.records.specs.Blank.{no_member}
 use Rattle.members.specs.declared.class.Class.TheVariants.{ColumnA, ColumnC}
 use Rattle.members.specs.Class.{is_wall, detailed, column_class, wall_class, class_of}
 use Rattle.members.specs.Tables.{places, moments, rotations}
 use Rattle.members.specs.Limits.{interp, blend, column_a, column_b, column_c, wall_rows, wall_b, m_limit_at, rotation_limit_at}
 use Rattle.members.specs.Finding.{axial, moment, stress, hoops, m_limit_of, rotation_limit_of, m_dropped_of, is_over, finding_by, answer_by}
-use Rattle.storeys.specs.declared.BuildingAnswer.{BuildingAnswer}
-use Rattle.storeys.specs.declared.BuildingAnswer.TheVariants.{Judged}
 use Rattle.totals.specs.Share.{allowed_share, exceeds_share}
-use Rattle.storeys.specs.Storey.{published_rules, meets_wall_share, axial_total_of, over_shear_of, some_over, damaged, risky_by_damage, case_risky, storey_risky, storey_finding, storey_call_fault, storey_answer_by}
 use Rattle.checks.specs.Rows.{row_fault, member_rows_fault, members_before, members_of, counts_fault, storey_rows_fault, records_fault}
-use Rattle.records.specs.Blank.{no_member}
-use Rattle.storeys.specs.Building.{risky_at, tilted, some_risky, building_risky, building_answer_by, named}
+use Rattle.storeys.specs.Storey.{published_rules, meets_wall_share, axial_total_of, over_shear_of, some_over, damaged, risky_by_damage, case_risky, storey_risky, storey_finding, storey_call_fault, storey_answer_by}
+use Rattle.storeys.specs.Building.{risky_at, tilted, some_risky, building_risky, building_answer_by, named, named-counted}
 use Rattle.comparison.specs.Pairing.{none, pair, EveryPair}
-use Rattle.comparison.specs.Demand3.{SameClass, Survey, storey_members_at, Accepted, Over, Risky, building_risky_in, StoreyPairs, AtLeastAsSevere, NowhereBetter, Carried}
-use Rattle.comparison.proofs.Tests.{never}
+use Rattle.comparison.specs.Demand3.{BuildingAnswer, SameClass, Survey, storey_members_at, Accepted, Over, Risky, building_risky_in, StoreyPairs, AtLeastAsSevere, NowhereBetter, Carried}
 use Rattle.comparison.proofs.Demand3.{demand3}
 
 -- what the members below differ in
@@ -140,7 +138,7 @@ worse g h long short strengthened wall-shear nd nk ve shear damage hoops wall-cl
 
 column-worse : AtLeastAsSevere SameClass 1 90 (member column) (member column_later)
 column-worse =
-    worse column column_later refl refl refl (λ e. absurd (never e)) (omega arith) (omega arith) (omega arith) (omega arith) (omega arith) (omega arith) (λ e. absurd (never e))
+    worse column column_later refl refl refl (λ e. cc) (omega arith) (omega arith) (omega arith) (omega arith) (omega arith) (omega arith) (λ e. cc)
     (λ e f. let z : ⊥ = omega (arith, e) in absurd z)
 
 wall-worse : AtLeastAsSevere SameClass 1 90 (member (wall 2 500)) (member (wall 6 600))
@@ -152,7 +150,7 @@ wall-worse =
 tension-worse : AtLeastAsSevere SameClass 1 90 (member (tension 1 900 1)) (member (tension 4 800 3))
 unfolding class_of detailed column_class
 tension-worse =
-    worse (tension 1 900 1) (tension 4 800 3) refl refl refl (λ e. absurd (never e)) (omega arith) (omega arith) (omega arith) (omega arith) (omega arith) (omega arith) (λ e. absurd (never e))
+    worse (tension 1 900 1) (tension 4 800 3) refl refl refl (λ e. cc) (omega arith) (omega arith) (omega arith) (omega arith) (omega arith) (omega arith) (λ e. cc)
     (λ e f. f)
 
 -- the only shear of the old form
@@ -180,10 +178,10 @@ classes = (refl, refl)
 
 -- what the call on each building answers: the first names its second storey, the other its first, which is the partner
 abbrev pub answer_one : BuildingAnswer
-answer_one = Judged (record { tilted = false; risky = true; place = 2 })
+answer_one = Ok (record { tilted = false; risky = true; place = Some 2; counted = named-counted 2 })
 
 abbrev pub answer_other : BuildingAnswer
-answer_other = Judged (record { tilted = false; risky = true; place = 1 })
+answer_other = Ok (record { tilted = false; risky = true; place = Some 1; counted = named-counted 1 })
 
 -- both surveys are accepted, and in the first the column is over, the second storey Risky and so the building
 pub record Found : Type 0 where

@@ -4,23 +4,22 @@ use native.Mathlib.Omega.{arith}
 use mathlib.Core.Bool.{true, false}
 use mathlib.Core.List.{[], ◌∷◌}
 use mathlib.Core.Path.{◌≡◌, refl}
+use Rattle.std.specs.Prelude.{Ok, Some}
 use Rattle.records.specs.Notation.{every_below, any_below, first, listed, total, any_of}
 use Rattle.records.specs.Records.{zero_force, header_fault, storey_fault, is_blank, member_fault, with_case}
 use Rattle.records.specs.declared.LoadCase.{LoadCase}
 use Rattle.records.specs.declared.Member.{Member}
+use Rattle.records.specs.Blank.{no_member}
 use Rattle.members.specs.Class.{detailed, column_class, wall_class, class_of}
 use Rattle.members.specs.Tables.{places, moments, rotations}
 use Rattle.members.specs.Limits.{interp, blend, column_a, column_b, column_c, wall_rows, wall_b, m_limit_at, rotation_limit_at}
 use Rattle.members.specs.Finding.{axial, moment, stress, hoops, m_limit_of, rotation_limit_of, m_dropped_of, is_over, finding_by, answer_by}
-use Rattle.storeys.specs.declared.BuildingAnswer.{BuildingAnswer}
-use Rattle.storeys.specs.declared.BuildingAnswer.TheVariants.{Judged}
 use Rattle.totals.specs.Share.{allowed_share, exceeds_share}
-use Rattle.storeys.specs.Storey.{published_rules, meets_wall_share, axial_total_of, over_shear_of, some_over, damaged, risky_by_damage, case_risky, storey_risky, storey_finding, storey_call_fault, storey_answer_by}
 use Rattle.checks.specs.Rows.{row_fault, member_rows_fault, members_before, members_of, counts_fault, storey_rows_fault, records_fault}
-use Rattle.records.specs.Blank.{no_member}
-use Rattle.storeys.specs.Building.{risky_at, tilted, some_risky, building_risky, building_answer_by, named}
+use Rattle.storeys.specs.Storey.{published_rules, meets_wall_share, axial_total_of, over_shear_of, some_over, damaged, risky_by_damage, case_risky, storey_risky, storey_finding, storey_call_fault, storey_answer_by}
+use Rattle.storeys.specs.Building.{risky_at, tilted, some_risky, building_risky, building_answer_by, named, named-counted}
 use Rattle.comparison.specs.Pairing.{none, pair, EveryPair}
-use Rattle.comparison.specs.Demand3.{SameClass, Survey, storey_members_at, storey_answer, case_risky_in, Accepted, Over, Risky, CaseRisky, StoreyPairs, AtLeastAsSevereIn, AtLeastAsSevere, NowhereBetter, Carried}
+use Rattle.comparison.specs.Demand3.{BuildingAnswer, SameClass, Survey, storey_members_at, storey_answer, case_risky_in, Accepted, Over, Risky, CaseRisky, StoreyPairs, AtLeastAsSevereIn, AtLeastAsSevere, NowhereBetter, Carried}
 use Rattle.comparison.proofs.Demand3.{demand3}
 
 -- a load case with M_e
@@ -126,7 +125,7 @@ met =
 
 -- both calls on a building name its only storey
 abbrev pub answer : BuildingAnswer
-answer = Judged (record { tilted = false; risky = true; place = 1 })
+answer = Ok (record { tilted = false; risky = true; place = Some 1; counted = named-counted 1 })
 
 -- both surveys are accepted; in the first the column is over and the storey Risky in case 3 alone
 pub record Found : Type 0 where

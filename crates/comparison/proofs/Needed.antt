@@ -2,14 +2,14 @@
 use mathlib.Core.Path.{refl}
 use Rattle.records.specs.Notation.{every_below, any_below, first, total, any_of}
 use Rattle.records.specs.Records.{header_fault, storey_fault, is_blank, member_fault}
+use Rattle.records.specs.Blank.{no_member}
 use Rattle.members.specs.Class.{detailed, column_class, wall_class, class_of}
 use Rattle.members.specs.Tables.{places, moments, rotations}
 use Rattle.members.specs.Limits.{interp, blend, column_a, column_b, column_c, wall_rows, wall_b, m_limit_at, rotation_limit_at}
 use Rattle.members.specs.Finding.{axial, moment, stress, hoops, m_limit_of, rotation_limit_of, m_dropped_of, is_over, finding_by}
 use Rattle.totals.specs.Share.{allowed_share, exceeds_share}
-use Rattle.storeys.specs.Storey.{meets_wall_share, axial_total_of, over_shear_of, some_over, damaged, risky_by_damage, case_risky, storey_risky}
 use Rattle.checks.specs.Rows.{row_fault, member_rows_fault, members_before, members_of, counts_fault, storey_rows_fault, records_fault}
-use Rattle.records.specs.Blank.{no_member}
+use Rattle.storeys.specs.Storey.{meets_wall_share, axial_total_of, over_shear_of, some_over, damaged, risky_by_damage, case_risky, storey_risky}
 use Rattle.storeys.specs.Building.{risky_at, tilted, some_risky, building_risky, building_answer_by}
 use Rattle.comparison.specs.Needed.{AllNeeded, needed}
 

@@ -1,18 +1,16 @@
 -- What a pairing carries over: totals, lengths, and that some element passes a test.
 use Prim.Native.Nat.{ℕ, suc, ◌+◌, ◌≤◌, zero, ◌<◌}
 use native.Mathlib.Omega.{arith}
-use mathlib.Core.Bool.{Bool, true, false, ◌||◌}
+use mathlib.Core.Bool.{Bool, true, ◌||◌}
 use mathlib.Core.List.{List, [], ◌∷◌, ◌++◌}
 use mathlib.Core.Path.{◌≡◌, refl, sym, ap, ◌∙◌}
-use lib.ListN.{length, get_or}
+use lib.ListN.{length}
+use Rattle.std.specs.List.{All}
+use Rattle.std.proofs.lemmas.List.Elements.{All-nil, All-cons, All-head, All-tail, All-push}
+use Rattle.std.proofs.lemmas.Grind.{common_steps}
 use Rattle.records.specs.Notation.{listed, total, any_of}
 use Rattle.comparison.specs.Pairing.{Pairing, none, pair, EveryPair}
 use Rattle.comparison.proofs.Tests.{or-carried}
-
--- P holds of every element
-pub data All {A : Type 0} (P : A → Type 0) : List A → Type 0 where
-  empty : All P []
-  next : {x : A} {xs : List A} → P x → All P xs → All P (x ∷ xs)
 
 -- an element counts the same wherever it stands
 module _ {B : Type 0} where
@@ -22,21 +20,18 @@ module _ {B : Type 0} where
   total-middle f (b ∷ before) y after = omega (arith, total-middle f before y after)
 
   length-middle : (before : List B) (y : B) (after : List B) → length (before ++ (y ∷ after)) ≡ suc (length (before ++ after))
-  length-middle [] y after = refl
-  length-middle (b ∷ before) y after = ap suc (length-middle before y after)
+  length-middle before y after = grind (arith, common_steps)
 
   some-middle : (p : B → Bool) (before : List B) (y : B) (after : List B) → (p y || any_of p (before ++ after)) ≡ true → any_of p (before ++ (y ∷ after)) ≡ true
   unfolding any_of
   some-middle p [] y after e = e
-  some-middle p (b ∷ before) y after e = shift (p y) (p b) (any_of p (before ++ after)) (any_of p (before ++ (y ∷ after))) (some-middle p before y after) e
-    where
-      shift : (a b c d : Bool) → ((a || c) ≡ true → d ≡ true) → (a || (b || c)) ≡ true → (b || d) ≡ true
-      shift a true c d f g = refl
-      shift a false c d f g = f g
+  some-middle p (b ∷ before) y after e = grind (arith, some-middle p before y after)
 
   all_middle : (P : B → Type 0) (before : List B) (y : B) (after : List B) → All P (before ++ (y ∷ after)) → P y × All P (before ++ after)
-  all_middle P [] y after (next h a) = (h, a)
-  all_middle P (b ∷ before) y after (next h a) = let r = all_middle P before y after a in (r.0, next h r.1)
+  all_middle P [] y after a = (All-head P y after a, All-tail P y after a)
+  all_middle P (b ∷ before) y after a =
+      let r = all_middle P before y after (All-tail P b _ a) in
+      (r.0, All-cons P b _ (All-head P b _ a) r.1)
 
 module _ {A B : Type 0} {Q : A → B → Type 0} where
   pub each : (R S : (x : A) (y : B) → Q x y → Type 0) → ((x : A) (y : B) (q : Q x y) → R x y q → S x y q) → {xs : List A} {ys : List B} (p : Pairing Q xs ys) → EveryPair R p → EveryPair S p
@@ -79,20 +74,11 @@ module _ {A B : Type 0} {Q : A → B → Type 0} where
   pub of-all : (P : A → Type 0) (P' : B → Type 0) {xs : List A} {ys : List B} (p : Pairing Q xs ys) → All P xs → All P' ys → EveryPair (λ x y q. P x × P' y) p
   unfolding EveryPair
   of-all P P' none a b = record {}
-  of-all P P' (pair {y = y} before after q p) (next h a) b =
+  of-all P P' (pair {x = x} {y = y} {xs = xs} before after q p) a b =
       let r = all_middle P' before y after b in
-      ((h, r.0), of-all P P' p a r.1)
-
--- what holds of each place of a list holds of all its elements
-pub all-rows : {A : Type 0} (P : A → Type 0) (d : A) (xs : List A) → ((j : ℕ) → j < length xs → P (get_or xs j d)) → All P xs
-all-rows P d [] h = empty
-all-rows P d (x ∷ xs) h = next (h 0 (omega arith)) (all-rows P d xs (λ j l. h (suc j) (omega arith)))
-
-all_after : {A : Type 0} (P : A → Type 0) (xs : List A) (x : A) → All P xs → P x → All P (xs ++ (x ∷ []))
-all_after P [] x a h = next h empty
-all_after P (y ∷ xs) x (next k a) h = next k (all_after P xs x a h)
+      ((All-head P x xs a, r.0), of-all P P' p (All-tail P x xs a) r.1)
 
 pub all_listed : {A : Type 0} (P : A → Type 0) (f : ℕ → A) (n : ℕ) → ((i : ℕ) → i < n → P (f i)) → All P (listed f n)
 unfolding listed
-all_listed P f zero h = empty
-all_listed P f (suc n) h = all_after P (listed f n) (f n) (all_listed P f n (λ i l. h i (omega arith))) (h n (omega arith))
+all_listed P f zero h = All-nil P
+all_listed P f (suc n) h = All-push P (listed f n) (f n) (all_listed P f n (λ i l. h i (omega arith))) (h n (omega arith))

@@ -3,12 +3,14 @@
 use Prim.Native.Nat.{ℕ, zero, suc, ◌-◌, ◌≤◌, zero-le, suc-le-suc, ◌<◌}
 use native.Mathlib.Omega.{arith}
 use native.Mathlib.Bridge.{le_prop}
-use native.Mathlib.Decide.{dec_le}
 use mathlib.Core.List.{List, [], ◌∷◌, ◌++◌}
-use mathlib.Core.Path.{◌≡◌, refl, sym, ap, subst, subst_refl, transport, transport⁻¹, path_j, ◌∙◌}
+use mathlib.Core.Path.{◌≡◌, sym, ap, subst, subst_refl, transport, transport⁻¹, path_j}
 use lib.Dec.{ltb}
 use lib.ListN.{length, get_or, take, drop}
-use borrow.Author.Tests.{lt-ltb, le-ltb}
+use Rattle.std.proofs.Math.Seq.{drop-cons}
+use Rattle.std.proofs.lemmas.List.{take-append-drop}
+use Rattle.std.proofs.lemmas.Grind.{common_steps}
+use Rattle.std.proofs.lemmas.Bool.Decides.{nat_tests}
 use Rattle.records.specs.Notation.{pick}
 use Rattle.comparison.specs.Pairing.{Pairing, none, pair, EveryPair}
 
@@ -26,53 +28,25 @@ module _ {B : Type 0} (d : B) where
   without j ys = take j ys ++ drop (suc j) ys
 
   split : (ys : List B) (j : ℕ) → j < length ys → take j ys ++ (get_or ys j d ∷ drop (suc j) ys) ≡ ys
-  split [] j h = let z : ⊥ = omega arith in absurd z
-  split (y ∷ ys) zero h = refl
-  split (y ∷ ys) (suc j) h = ap (y ∷◌) (split ys j (omega arith))
+  split ys j h = rw (← drop-cons ys j d h) (take-append-drop j ys)
 
   length_without : (ys : List B) (j : ℕ) → j < length ys → suc (length (without j ys)) ≡ length ys
-  length_without [] j h = let z : ⊥ = omega arith in absurd z
-  length_without (y ∷ ys) zero h = refl
-  length_without (y ∷ ys) (suc j) h = ap suc (length_without ys j (omega arith))
+  length_without ys j h = grind (arith, common_steps)
 
   kept-before : (ys : List B) (j t : ℕ) → t < j → get_or (without j ys) t d ≡ get_or ys t d
-  kept-before [] zero t h = refl
-  kept-before [] (suc j) t h = refl
-  kept-before (y ∷ ys) zero t h = let z : ⊥ = omega arith in absurd z
-  kept-before (y ∷ ys) (suc j) zero h = refl
-  kept-before (y ∷ ys) (suc j) (suc t) h = kept-before ys j t (omega arith)
+  kept-before ys j t h = grind (arith, common_steps)
 
   kept-after : (ys : List B) (j t : ℕ) → j ≤ t → get_or (without j ys) t d ≡ get_or ys (suc t) d
-  kept-after [] zero t h = refl
-  kept-after [] (suc j) t h = refl
-  kept-after (y ∷ ys) zero t h = refl
-  kept-after (y ∷ ys) (suc j) zero h = let z : ⊥ = omega arith in absurd z
-  kept-after (y ∷ ys) (suc j) (suc t) h = kept-after ys j t (omega arith)
+  kept-after ys j t h = grind (arith, common_steps)
 
   kept : (ys : List B) (j t : ℕ) → (t ≡ j → ⊥) → get_or (without j ys) (skip j t) d ≡ get_or ys t d
-  kept ys j t ne = go (dec_le (suc t) j)
-    where
-      go : Dec (suc t ≤ j) → get_or (without j ys) (skip j t) d ≡ get_or ys t d
-      go (yes h) = rw (lt-ltb t j h) (kept-before ys j t h)
-      go (no h) =
-          let e : suc (t - 1) ≡ t = omega arith in
-          rw (le-ltb t j (omega arith)) (kept-after ys j (t - 1) (omega arith) ∙ ap (λ z. get_or ys z d) e)
+  kept ys j t ne = grind (arith, nat_tests, kept-before ys j t, kept-after ys j (t - 1))
 
 skip-within : (n j t : ℕ) → j < suc n → t < suc n → (t ≡ j → ⊥) → skip j t < n
-skip-within n j t hj ht ne = go (dec_le (suc t) j)
-  where
-    go : Dec (suc t ≤ j) → skip j t < n
-    go (yes h) = rw (lt-ltb t j h) (omega arith)
-    go (no h) = rw (le-ltb t j (omega arith)) (omega arith)
+skip-within n j t hj ht ne = grind (arith, nat_tests)
 
 skip-apart : (j t u : ℕ) → (t ≡ j → ⊥) → (u ≡ j → ⊥) → skip j t ≡ skip j u → t ≡ u
-skip-apart j t u nt nu e = go (dec_le (suc t) j) (dec_le (suc u) j)
-  where
-    go : Dec (suc t ≤ j) → Dec (suc u ≤ j) → t ≡ u
-    go (yes h) (yes l) = rw (lt-ltb t j h, lt-ltb u j l) at e
-    go (yes h) (no l) = omega (arith, rw (lt-ltb t j h, le-ltb u j (omega arith)) at e)
-    go (no h) (yes l) = omega (arith, rw (le-ltb t j (omega arith), lt-ltb u j l) at e)
-    go (no h) (no l) = omega (arith, rw (le-ltb t j (omega arith), le-ltb u j (omega arith)) at e)
+skip-apart j t u nt nu e = grind (arith, nat_tests)
 
 -- what holds of a value holds of it along an equation
 along : {B : Type 0} (P : B → Type 0) (R : (y : B) → P y → Type 0) {y z : B} (e : y ≡ z) (p : P y) → R y p ≡ R z (subst P e p)

@@ -2,48 +2,40 @@
 use Prim.Native.Nat.{ℕ, ◌*◌, ◌≤◌, ◌<◌}
 use native.Mathlib.Nat.{le_refl}
 use native.Mathlib.Omega.{arith}
-use mathlib.Core.Bool.{Bool, true, false}
+use mathlib.Core.Bool.{Bool, true}
 use mathlib.Core.List.{List}
 use mathlib.Core.Path.{◌≡◌, refl, sym, subst}
 use lib.Dec.{ltb}
 use lib.ListN.{length}
-use borrow.Author.Tests.{leb-true, ltb-true}
+use Rattle.std.proofs.lemmas.Bool.Decides.{nat_tests}
 use Rattle.records.specs.Records.{in_case}
 use Rattle.records.specs.Notation.{pick}
 use Rattle.records.specs.Valid.{Valid}
 use Rattle.records.specs.declared.Member.{Member}
-use Rattle.records.proofs.Below.{and_left, and_right}
 use Rattle.members.specs.Ordered.{ordered_set}
 use Rattle.members.specs.Finding.{finding_by}
-use Rattle.totals.specs.Totals.{wall_shear}
+use Rattle.totals.specs.Totals.{wall_shear, weight_of}
 use Rattle.storeys.specs.Storey.{Rules, meets_wall_share, member_axial, axial_total_of, over, shear_if_over, over_shear_of, some_over, case_risky}
 use Rattle.comparison.specs.Orderly.{orderly, LimitsFall}
 use Rattle.comparison.specs.Pairing.{EveryPair}
 use Rattle.comparison.specs.Demand3.{WallCondition, MemberPairs, AtLeastAsSevereIn}
-use Rattle.comparison.proofs.Tests.{never, and-carried, or-carried, excess-carried}
+use Rattle.comparison.proofs.Tests.{and-carried, or-carried, excess-carried}
 use Rattle.comparison.proofs.Partners.{wall-shear-same, shear-kept, nd-kept, over-kept}
 use Rattle.comparison.proofs.Pairs.{each, total-le, total-equal, length-equal, some-carried}
 use Rattle.comparison.proofs.Share.{share-carried}
-use Rattle.comparison.proofs.Damage.{weight, weight-mono, damage-carried}
+use Rattle.comparison.proofs.Damage.{weight-mono, damage-carried}
 
 -- rules that keep the order, as facts
 pub record Orderly (rules : Rules) : Type 0 where
   pub limits : ordered_set rules.limits ≡ true
-  pub ends : rules.share.ends.r1 < rules.share.ends.r2
-  pub shares : rules.share.shares.r2 ≤ rules.share.shares.r1
+  pub places : rules.share.first.at < rules.share.second.at
+  pub shares : rules.share.second.limit ≤ rules.share.first.limit
 
 pub rules-ordered : (rules : Rules) → orderly rules ≡ true → Orderly rules
-rules-ordered rules e =
-    record {
-      limits = and_left (ordered_set rules.limits) _ e;
-      ends = ltb-true _ _ (and_left (ltb rules.share.ends.r1 rules.share.ends.r2) _ (and_right (ordered_set rules.limits) _ e));
-      shares = leb-true _ _ (and_right (ltb rules.share.ends.r1 rules.share.ends.r2) _ (and_right (ordered_set rules.limits) _ e));
-    }
+rules-ordered rules e = grind (arith, nat_tests)
 
 counted : (a b : Bool) (x y : ℕ) → (a ≡ true → b ≡ true) → x ≤ y → pick a x 0 ≤ pick b y 0
-counted true true x y f h = h
-counted true false x y f h = absurd (never (f refl))
-counted false b x y f h = omega arith
+counted a b x y f h = grind (arith)
 
 -- what is known of a pair of members in case c: they are good records, and the second is nowhere better
 abbrev pub Known : WallCondition → ℕ → ℕ → Member → Member → Unit {0} → Type 0
@@ -86,18 +78,18 @@ module _ (walls : WallCondition) (rules : Rules) (good : Orderly rules) (falls :
     unfolding some_over
     some-over-carried met e = some-carried (over rules k met c) (over rules k met c) p (overs-same met) e
 
-    weights-carried : EveryPair (λ m n u. weight m.damage ≤ weight n.damage) p
+    weights-carried : EveryPair (λ m n u. weight_of m.damage ≤ weight_of n.damage) p
     weights-carried =
-        each (Known walls k c) (λ m n u. weight m.damage ≤ weight n.damage) (λ m n u h. weight-mono m.damage n.damage h.1.damage h.0.1.damage) p known
+        each (Known walls k c) (λ m n u. weight_of m.damage ≤ weight_of n.damage) (λ m n u h. weight-mono m.damage n.damage h.1.damage h.0.1.damage) p known
 
     risky-carried-at : (met : Bool) → meets_wall_share c w ms ≡ met → meets_wall_share c w ns ≡ met → 0 < length ms → case_risky rules k c w ms ≡ true → case_risky rules k c w ns ≡ true
     unfolding case_risky
     risky-carried-at met e f l =
         rw (e, f, ← length-equal p)
         (or-carried _ _ _ _
-        (share-carried rules.share (length ms) _ _ w _ _ good.ends good.shares l (over-shear-carried met) axial-carried)
+        (share-carried rules.share (length ms) _ _ w _ _ good.places good.shares l (over-shear-carried met) axial-carried)
         (or-carried _ _ _ _
-        (and-carried (ltb (rules.share.ends.r2 * length ms) (axial_total_of ms)) _ (ltb (rules.share.ends.r2 * length ms) (axial_total_of ns)) _ (excess-carried _ _ _ _ (le_refl (rules.share.ends.r2 * length ms)) axial-carried) (some-over-carried met))
+        (and-carried (ltb (rules.share.second.at * length ms) (axial_total_of ms)) _ (ltb (rules.share.second.at * length ms) (axial_total_of ns)) _ (excess-carried _ _ _ _ (le_refl (rules.share.second.at * length ms)) axial-carried) (some-over-carried met))
         (damage-carried p weights-carried)))
 
     pub risky-carried : 0 < length ms → case_risky rules k c w ms ≡ true → case_risky rules k c w ns ≡ true

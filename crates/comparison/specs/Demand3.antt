@@ -1,12 +1,12 @@
 -- Demand 3 of the mission: a survey that is nowhere better never clears a member, a storey or a building. Its words, then the claim.
-use Rattle.std.specs.Prelude.{◌≤◌, ◌<◌, ◌≡◌}
+use Rattle.std.specs.Prelude.{◌≤◌, ◌<◌, ◌≡◌, Result, Ok, Err}
 use Rattle.records.specs.Notation.{ℕ, Bool, true, false, List, eqb, length, pick, listed}
-use Rattle.checks.specs.Rows.{Storey, Member, storey_in, members_of}
 use Rattle.records.specs.{declared.MemberCase.MemberCase, Records.case_count, Records.shear_of, Records.in_case}
 pub use Rattle.records.specs.Records.{Survey}
-use Rattle.members.specs.declared.finding.{Met.Met, MemberAnswer.MemberAnswer, MemberAnswer.TheVariants.Judged as JudgedMember, MemberAnswer.TheVariants.JudgedCases as JudgedMemberCases, MemberAnswer.TheVariants.Refused as RefusedMember}
-use Rattle.storeys.specs.declared.{StoreyAnswer.StoreyAnswer, StoreyAnswer.TheVariants.Judged as JudgedStorey, StoreyAnswer.TheVariants.JudgedCases as JudgedStoreyCases, StoreyAnswer.TheVariants.Refused as RefusedStorey, BuildingAnswer.BuildingAnswer, BuildingAnswer.TheVariants.Judged as JudgedBuilding, BuildingAnswer.TheVariants.Refused as RefusedBuilding}
-use Rattle.members.specs.{declared.class.Class.TheVariants.ColumnC, Class.is_wall, Class.class_of, Finding.answer_by}
+use Rattle.records.specs.declared.by_case.{FourCases.FourCases, ByForm.ByForm, ByForm.TheVariants.One, ByForm.TheVariants.Four}
+use Rattle.members.specs.{declared.class.Class.TheVariants.ColumnC, declared.finding.Finding.Finding, Class.is_wall, Class.class_of, Finding.answer_by}
+use Rattle.checks.specs.Rows.{Storey, Member, storey_in, members_of}
+use Rattle.storeys.specs.declared.{StoreyJudgment.StoreyJudgment, BuildingFinding.BuildingFinding}
 use Rattle.storeys.specs.{Storey.Rules, Storey.published_rules, Storey.meets_wall_share, Storey.storey_answer_by, Building.Answers, Building.returned_building}
 use Rattle.comparison.specs.Pairing.{Pairing, EveryPair}
 
@@ -24,6 +24,16 @@ storey_members_at a i = record { storey = storey_in a.storeys i; members = membe
 abbrev pub storeys_members : Survey → List StoreyMembers
 storeys_members a = listed (storey_members_at a) (length a.storeys)
 
+-- what the calls on a member, a storey and a building answer: what is found, or the number of the refusal
+abbrev pub MemberAnswer : Type 0
+MemberAnswer = Result (ByForm Finding) ℕ
+
+abbrev pub StoreyAnswer : Type 0
+StoreyAnswer = Result StoreyJudgment ℕ
+
+abbrev pub BuildingAnswer : Type 0
+BuildingAnswer = Result BuildingFinding ℕ
+
 -- ACCEPTED: "the building call returns no refusal for it"; r is that call's answer, whichever Risky storey it names
 pub record Accepted (rules : Rules) (a : Survey) (r : BuildingAnswer) : Type 0 where
   pub answers : Answers rules a r
@@ -31,33 +41,31 @@ pub record Accepted (rules : Rules) (a : Survey) (r : BuildingAnswer) : Type 0 w
 
 -- OVER and RISKY: "what the calls on a member, a storey and a building answer, each member judged with the k of its survey and the 0.40
 -- condition of its storey"; in case c, counted from 0 (document 02, N3)
-abbrev pub in_case_of : {A : Type 0} → ℕ → A → A → A → A → A
-in_case_of c case1 case2 case3 case4 = pick (eqb c 0) case1 (pick (eqb c 1) case2 (pick (eqb c 2) case3 case4))
+abbrev pub in_case_of : {A : Type 0} → ℕ → ByForm A → A
+in_case_of c (One f) = f
+in_case_of c (Four f) = pick (eqb c 0) f.case1 (pick (eqb c 1) f.case2 (pick (eqb c 2) f.case3 f.case4))
 
 abbrev pub over_in : ℕ → MemberAnswer → Bool
-over_in c (JudgedMember f) = f.over
-over_in c (JudgedMemberCases f) = in_case_of c f.case1.over f.case2.over f.case3.over f.case4.over
-over_in c (RefusedMember n) = false
+over_in c (Ok f) = (in_case_of c f).over
+over_in c (Err n) = false
 
 abbrev pub risky_in : StoreyAnswer → Bool
-risky_in (JudgedStorey f) = f.risky
-risky_in (JudgedStoreyCases f) = f.risky
-risky_in (RefusedStorey n) = false
+risky_in (Ok j) = j.risky
+risky_in (Err n) = false
 
 abbrev pub case_risky_in : ℕ → StoreyAnswer → Bool
-case_risky_in c (JudgedStorey f) = f.risky
-case_risky_in c (JudgedStoreyCases f) = in_case_of c f.case1.risky f.case2.risky f.case3.risky f.case4.risky
-case_risky_in c (RefusedStorey n) = false
+case_risky_in c (Ok j) = (in_case_of c j.findings).risky
+case_risky_in c (Err n) = false
 
 abbrev pub building_risky_in : BuildingAnswer → Bool
-building_risky_in (JudgedBuilding f) = f.risky
-building_risky_in (RefusedBuilding n) = false
+building_risky_in (Ok f) = f.risky
+building_risky_in (Err n) = false
 
 -- the 0.40 condition of a storey, by case
 abbrev pub storey_met : StoreyMembers → ℕ → Bool
 storey_met f c = meets_wall_share c (shear_of c f.storey) f.members
 
-abbrev pub storey_mets : StoreyMembers → Met
+abbrev pub storey_mets : StoreyMembers → FourCases Bool
 storey_mets f = record { case1 = storey_met f 0; case2 = storey_met f 1; case3 = storey_met f 2; case4 = storey_met f 3 }
 
 abbrev pub Over : Rules → Survey → StoreyMembers → ℕ → Member → Type 0

@@ -9,9 +9,9 @@ use Rattle.members.specs.Ordered.{ordered_set}
 use Rattle.storeys.specs.Storey.{Rules}
 use Rattle.comparison.specs.Demand3.{WallCondition, AtLeastAsSevereIn}
 
--- rules that keep the order of the load: limits in order, share ends that rise and shares that do not
+-- rules that keep the order of the load: limits in order, and rows of the share that rise while their shares do not
 abbrev pub orderly : Rules → Bool
-orderly rules = ordered_set rules.limits && (ltb rules.share.ends.r1 rules.share.ends.r2 && leb rules.share.shares.r2 rules.share.shares.r1)
+orderly rules = ordered_set rules.limits && (ltb rules.share.first.at rules.share.second.at && leb rules.share.second.limit rules.share.first.limit)
 
 -- a condition under which, by a set, no wall has a limit above its partner's
 abbrev pub LimitsFall : WallCondition → LimitSet → Type 0

@@ -1,3 +1,3 @@
-pub mod Answers
 pub mod Determination
+pub mod Outcome
 pub mod Accepted

@@ -2,20 +2,20 @@
 // of rows that are lent are given here, and nowhere below.
 #![tactic(auto)]
 
-ghost use Rattle.std.specs.Prelude.{◌≡◌, length};
+ghost use Rattle.std.specs.Prelude.{◌≡◌, length, Some, None};
 ghost use Rattle.columns.specs.Line.{at_front, put_length};
-ghost use Rattle.determination.specs.Determination.{storey_rows, member_rows, text, printed};
-ghost use Rattle.reading.specs.Survey.{survey};
+ghost use Rattle.determination.specs.Determination.{printed};
+ghost use Rattle.determination.specs.Outcome.{Determined};
 
-use crate::answers::{blank_member, blank_storey, finish, header_in, members_in};
+use checks::Survey;
 use reading::rows::read;
-use reading::survey::storeys_read;
-use records::CASES;
+use reading::survey::LineRefusal;
+use records::form::Form;
+use records::refusal::Refusal;
+use records::{CASES, FIELDS_MOST, Member, Storey};
 use report::refusal_line::write_refusal;
 use report::sheet::write_report;
 use report::{BUILDING_LINE_SIZE, MEMBER_CASE_LINE_SIZE, STOREY_CASE_LINE_SIZE};
-
-pub mod answers;
 
 // The longest input.
 pub const INPUT_MOST: usize = 65_536;
@@ -30,18 +30,50 @@ pub const SHEET_MOST: usize = CASES
     * (MEMBER_CASE_LINE_SIZE * MEMBER_ROWS + STOREY_CASE_LINE_SIZE * STOREY_ROWS)
     + BUILDING_LINE_SIZE;
 
-// An input that is not too long: a refused one has a blank header and no rows, of which the report call writes nothing.
-fn determine_file(input: &[u8], out: &mut [u8]) -> usize
-    ensures value { result ≡ put_length (text (survey input.now storey_rows member_rows) (length out.old)) (length out.old) }
-    ensures out_after { out.new ≡ at_front (text (survey input.now storey_rows member_rows) (length out.old)) out.old }
+// Why there is no sheet, and the line of the file, where the refusal has one.
+struct Refused {
+    refusal: Refusal,
+    line: Option<u64>,
+}
+
+impl From<Refusal> for Refused {
+    ghost from_gives = { λ refusal refused. refused ≡ record { refusal = refusal; line = None } };
+
+    fn from(refusal: Refusal) -> Refused {
+        Refused {
+            refusal,
+            line: None,
+        }
+    }
+}
+
+impl From<LineRefusal> for Refused {
+    ghost from_gives = { λ of_file refused. refused ≡ record { refusal = of_file.refusal; line = Some of_file.line } };
+
+    fn from(of_file: LineRefusal) -> Refused {
+        Refused {
+            refusal: of_file.refusal,
+            line: Some(of_file.line),
+        }
+    }
+}
+
+// The sheet of a survey file, from the front of the bytes: its length, or why there is none.
+fn write_sheet(input: &[u8], out: &mut [u8]) -> Result<usize, Refused>
+    ensures { Determined input.now out.old out.new result }
 {
-    let mut storeys = [blank_storey(); STOREY_ROWS];
-    let mut members = [blank_member(); MEMBER_ROWS];
-    let r = read(input, &mut storeys, &mut members);
-    let n = storeys_read(r);
-    let m = members_in(r);
-    let a = write_report(header_in(r), &storeys[..n], &members[..m], out);
-    finish(out, r, a)
+    if INPUT_MOST < input.len() {
+        return Err(Refusal::TooLarge.into());
+    }
+    let mut storeys = [Storey::of(Form::Old, &[0; FIELDS_MOST]); STOREY_ROWS];
+    let mut members = [Member::of(&[0; FIELDS_MOST]); MEMBER_ROWS];
+    let filled = read(input, &mut storeys, &mut members)?;
+    let survey = Survey {
+        header: filled.header,
+        storeys: &storeys[..filled.storeys],
+        members: &members[..filled.members],
+    };
+    Ok(write_report(&survey, out)?)
 }
 
 // The sheet of a survey file, or its `E` line, from the front of the bytes; gives its length. Where the line does not fit, nothing and 0.
@@ -49,8 +81,10 @@ pub fn determine(input: &[u8], out: &mut [u8]) -> usize
     ensures value { result ≡ put_length (printed input.now (length out.old)) (length out.old) }
     ensures out_after { out.new ≡ at_front (printed input.now (length out.old)) out.old }
 {
-    if INPUT_MOST < input.len() {
-        return write_refusal(out, 8, 0);
+    match write_sheet(input, out) {
+        Ok(length) => length,
+        Err(Refused { refusal, line }) => {
+            write_refusal(out, refusal.number(), line.unwrap_or(0))
+        }
     }
-    determine_file(input, out)
 }

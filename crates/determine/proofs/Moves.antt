@@ -1,46 +1,30 @@
 -- What one more read or write moves, by what it returned.
-use Rattle.std.proofs.Common.{◌≡◌, ℕ, zero, suc, ◌+◌, ◌≤◌, List, ◌++◌, arith, length, take, drop, slice_range, sym, ap, ◌∙◌, subst, le_refl, drop_at, length-take-le}
+use Rattle.std.proofs.Common.{◌≡◌, ℕ, zero, suc, ◌+◌, ◌≤◌, List, ◌++◌, length, take, drop, slice_range, sym, ap, ◌∙◌, subst, le_refl, drop_at, length-take-le}
 use Rattle.std.proofs.lemmas.List.{take_rest}
 use Rattle.std.proofs.lemmas.Slice.{take-put_mid_below}
-use Rattle.std.specs.Prelude.{Option, Result, Ok, Err}
+use Rattle.std.specs.Prelude.{Option, Some, Result, Ok, Err}
 use Rattle.std.specs.Io.{ReadsAtMost, WritesAtMost}
 use Rattle.std.specs.Io.KnownBytes.{Appends, Consumes, ReadConsumes, WriteAppends}
 use Rattle.std.proofs.KnownBytes.{Appends-trans, Consumes-trans}
 use Rattle.std.specs.declared.io.Error.{Error}
 use borrow.Rule.Slice.PartMut.{put_mid, post_of}
 use lib.Seq.{take-add, take-append-le}
-use Rattle.determine.specs.Transfer.{answered, Moving}
-use Rattle.determine.specs.declared.Answer.{Answer}
-use Rattle.determine.specs.declared.Answer.TheVariants.{Bytes, End, Failure}
+use Rattle.determine.specs.Transfer.{moved_of}
 
-abbrev count : Answer → ℕ
-count (Bytes n) = n
-count End = 0
-count Failure = 0
-
--- a write that moved bytes
-moved_out : (r : Result ℕ Error) (n : ℕ) (a b : Option (List ℕ)) (part : List ℕ) → Bytes n ≡ answered r → WritesAtMost r part → WriteAppends a b r part → (n ≤ length part) × Appends a b (take n part)
-moved_out (Ok zero) n a b part e l w = absurd (subst Moving e tt)
-moved_out (Ok (suc k)) n a b part e l w =
-    let q : n ≡ suc k = ap count e in
-    (omega (arith, q, l), subst (λ (m : ℕ). Appends a b (take m part)) (sym q) w)
-moved_out (Err x) n a b part e l w = absurd (subst Moving e tt)
-
--- a read that moved bytes
-moved_in : (r : Result ℕ Error) (n : ℕ) (a b : Option (List ℕ)) (part : List ℕ) → Bytes n ≡ answered r → ReadsAtMost r part → ReadConsumes a b r part → (n ≤ length part) × Consumes a b (take n part)
-moved_in (Ok zero) n a b part e l w = absurd (subst Moving e tt)
-moved_in (Ok (suc k)) n a b part e l w =
-    let q : n ≡ suc k = ap count e in
-    (omega (arith, q, l.0), subst (λ (m : ℕ). Consumes a b (take m part)) (sym q) w.0)
-moved_in (Err x) n a b part e l w = absurd (subst Moving e tt)
+-- a call that moved bytes returned how many
+returned : (r : Result ℕ Error) (n : ℕ) → moved_of r ≡ Ok (Some n) → r ≡ Ok n
+returned (Ok zero) n e = cc
+returned (Ok (suc k)) n e = cc
+returned (Err x) n e = cc
 
 -- the bytes written before and those of one more write
-pub written_more : (r : Result ℕ Error) (n done : ℕ) (a b c : Option (List ℕ)) (bytes : List ℕ) → Bytes n ≡ answered r → WritesAtMost r (slice_range bytes done (length bytes)) → Appends a b (take done bytes) → WriteAppends b c r (slice_range bytes done (length bytes)) → Appends a c (take (done + n) bytes)
+pub written_more : (r : Result ℕ Error) (n done : ℕ) (a b c : Option (List ℕ)) (bytes : List ℕ) → moved_of r ≡ Ok (Some n) → WritesAtMost r (slice_range bytes done (length bytes)) → Appends a b (take done bytes) → WriteAppends b c r (slice_range bytes done (length bytes)) → Appends a c (take (done + n) bytes)
 written_more r n done a b c bytes e l w m =
-    let more = moved_out r n b c (slice_range bytes done (length bytes)) e l m in
+    let part = slice_range bytes done (length bytes) in
+    let more : Appends b c (take n part) = subst (λ (x : Result ℕ Error). WriteAppends b c x part) (returned r n e) m in
     subst (Appends a c)
     (ap (λ (rest : List ℕ). take done bytes ++ take n rest) (take_rest bytes done) ∙ sym (take-add done n bytes))
-    (Appends-trans a b c _ _ w more.1)
+    (Appends-trans a b c _ _ w more)
 
 -- the bytes of a read in their place of the buffer
 front : (done room n : ℕ) (buffer part : List ℕ) → done ≤ length buffer → n ≤ length part → take done buffer ++ take n part ≡ take (done + n) (put_mid done room buffer part)
@@ -52,7 +36,9 @@ front done room n buffer part h l =
     ap (λ (xs : List ℕ). take done buffer ++ xs) (sym came) ∙ ap (λ (xs : List ℕ). xs ++ take n (drop done whole)) (sym kept) ∙ sym (take-add done n whole)
 
 -- the bytes read before and those of one more read
-pub read_more : (r : Result ℕ Error) (n done room : ℕ) (a b c : Option (List ℕ)) (buffer part : List ℕ) → Bytes n ≡ answered r → ReadsAtMost r part → done ≤ length buffer → Consumes a b (take done buffer) → ReadConsumes b c r part → Consumes a c (take (done + n) (put_mid done room buffer part))
+pub read_more : (r : Result ℕ Error) (n done room : ℕ) (a b c : Option (List ℕ)) (buffer part : List ℕ) → moved_of r ≡ Ok (Some n) → ReadsAtMost r part → done ≤ length buffer → Consumes a b (take done buffer) → ReadConsumes b c r part → Consumes a c (take (done + n) (put_mid done room buffer part))
 read_more r n done room a b c buffer part e l h w m =
-    let more = moved_in r n b c part e l m in
-    subst (Consumes a c) (front done room n buffer part h more.0) (Consumes-trans a b c _ _ w more.1)
+    let o = returned r n e in
+    let within : n ≤ length part = (subst (λ (x : Result ℕ Error). ReadsAtMost x part) o l).0 in
+    let more : Consumes b c (take n part) = (subst (λ (x : Result ℕ Error). ReadConsumes b c x part) o m).0 in
+    subst (Consumes a c) (front done room n buffer part h within) (Consumes-trans a b c _ _ w more)

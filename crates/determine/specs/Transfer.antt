@@ -1,44 +1,21 @@
--- What reads and writes come to, by what they return.
-use Rattle.std.specs.Prelude.{ℕ, zero, suc, ◌≤◌, ◌≡◌, Result, Ok, Err}
+-- What reads and writes come to, by what they return and by the bytes that they move.
+use Rattle.std.specs.Prelude.{ℕ, zero, suc, ◌<◌, ◌≤◌, List, length, take, Option, Some, None, Result, Ok, Err}
+use Rattle.std.specs.Io.KnownBytes.{Appends, Consumes, IsAtEnd}
 use Rattle.std.specs.declared.io.Error.{Error}
-use Rattle.determine.specs.declared.Answer.{Answer}
-use Rattle.determine.specs.declared.Answer.TheVariants.{Bytes, End, Failure}
-use Rattle.determine.specs.declared.Input.{Input}
-use Rattle.determine.specs.declared.Input.TheVariants.{Read, Unread}
-use Rattle.determine.specs.declared.Output.{Output}
-use Rattle.determine.specs.declared.Output.TheVariants.{Written, Unwritten}
-use Rattle.determine.specs.declared.Transfer.{Transfer}
 
--- what one read or write returns means: so many bytes; no bytes, the end; an error, a failure
-abbrev pub answered : Result ℕ Error → Answer
-answered (Ok zero) = End
-answered (Ok (suc n)) = Bytes (suc n)
-answered (Err e) = Failure
+-- what one read or write returns means: so many bytes; no bytes, so there is no more to move; an error, a failure
+abbrev pub moved_of : Result ℕ Error → Result (Option ℕ) Error
+moved_of (Ok zero) = Ok None
+moved_of (Ok (suc n)) = Ok (Some (suc n))
+moved_of (Err e) = Err e
 
--- the answer of a call that moved bytes
-abbrev pub Moving : Answer → Type 0
-Moving (Bytes n) = Unit
-Moving End = ⊥
-Moving Failure = ⊥
+-- reading, by the bytes that the reader had and has, and the buffer afterwards. So many bytes are read into the front of it: all of them where it is not full.
+-- A failure leaves none of them as input, and bytes at the front that were read before it
+abbrev pub ReadsAll : Option (List ℕ) → Option (List ℕ) → Result ℕ Error → List ℕ → Type 0
+ReadsAll old new (Ok done) buffer = (done ≤ length buffer) × Consumes old new (take done buffer) × (done < length buffer → IsAtEnd new)
+ReadsAll old new (Err e) buffer = (done : ℕ) × (done ≤ length buffer) × Consumes old new (take done buffer)
 
--- nothing is left to move: all of a buffer of so many bytes is moved, or the last call moved nothing
-abbrev pub Over : Transfer → ℕ → Type 0
-Over t room = (t.done ≤ room) × (Moving (answered t.last) → t.done ≡ room)
-
--- the input, of which so many bytes were read, by the last answer: none of it after a failure
-abbrev pub input_after : Answer → ℕ → Input
-input_after (Bytes n) done = Read done
-input_after End done = Read done
-input_after Failure done = Unread
-
-abbrev pub input_of : Transfer → Input
-input_of t = input_after (answered t.last) t.done
-
--- the output, by the last answer: written unless the last write moved nothing
-abbrev pub output_after : Answer → Output
-output_after (Bytes n) = Written
-output_after End = Unwritten
-output_after Failure = Unwritten
-
-abbrev pub output_of : Transfer → Output
-output_of t = output_after (answered t.last)
+-- writing, by the bytes that the writer had and has. All are written, or those before a failure
+abbrev pub WritesAll : {A : Type 0} → Option (List ℕ) → Option (List ℕ) → Result A Error → List ℕ → Type 0
+WritesAll old new (Ok u) bytes = Appends old new bytes
+WritesAll old new (Err e) bytes = (done : ℕ) × (done ≤ length bytes) × Appends old new (take done bytes)

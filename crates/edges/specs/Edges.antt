@@ -1,11 +1,11 @@
 -- The edges of document 01 as one table, over records of the old form. Each value is one of the answer that the contract of its call cites.
-use Rattle.std.specs.Prelude.{ℕ, ◌+◌, false, List, [], ◌∷◌, map, ◌≡◌, eqb, length, get_or, take}
+use Rattle.std.specs.Prelude.{ℕ, ◌+◌, Bool, false, List, [], ◌∷◌, map, ◌≡◌, eqb, length, get_or, take}
 use Rattle.records.specs.Notation.{pick, listed}
 use Rattle.records.specs.Records.{zero_force, no_case, survey_of}
 use Rattle.records.specs.declared.Header.{Header}
 use Rattle.records.specs.declared.Storey.{Storey}
 use Rattle.records.specs.declared.Member.{Member}
-use Rattle.members.specs.declared.finding.Met.{Met}
+use Rattle.records.specs.declared.by_case.FourCases.{FourCases}
 use Rattle.members.specs.Finding.{member_returned}
 use Rattle.storeys.specs.Storey.{published_rules, storey_returned}
 use Rattle.storeys.specs.Building.{building_answer_by, returned_building}
@@ -67,7 +67,7 @@ loaded i nd me shear damage =
     edge_member (record { number = i; long = 400; short = 250; hoops = 130; hooks = 1; strengthened = 0; damage = damage; nd = nd; nk = 0; me = me; ve = 0; vr = 1; shear = shear })
 
 -- in a storey that does not meet the 0.40 condition
-abbrev pub not_met : Met
+abbrev pub not_met : FourCases Bool
 not_met = record { case1 = false; case2 = false; case3 = false; case4 = false }
 
 -- class and limits that a member with k 100 or 90 is answered

@@ -1,2 +1,2 @@
 pub mod Lines
-pub mod Room
+pub mod Told

@@ -1,4 +1,4 @@
--- The number of a file's refusal and its line are small: before the line stand storeys and members that were counted by good lines.
+-- The line of a file's refusal is small: before the line stand storeys and members that were counted by good lines.
 use Prim.Native.Nat.{ℕ, zero, suc, ◌+◌, ◌*◌, ◌≤◌, ◌<◌}
 use native.Mathlib.Omega.{arith}
 use mathlib.Core.Bool.{Bool, true, false}
@@ -9,9 +9,8 @@ use lib.ListN.{length}
 use borrow.Author.Tests.{eqb-true}
 use Rattle.records.specs.Notation.{pick, first}
 use Rattle.format.specs.Lines.{header_at, case_start, case_lines}
-use Rattle.reading.specs.Survey.{form_of, line_start, line_number, members_before, storey, member_start, header_line_fault, storey_line_fault, member_line_fault, case_line_fault, no_fault, at-line, first_fault, cases_fault, member_lines_fault, members_fault, storeys_fault, trailing, lines_fault, survey_fault, survey}
+use Rattle.reading.specs.Survey.{Fault, form_of, line_start, line_number, members_before, storey, member_start, header_line_fault, storey_line_fault, member_line_fault, case_line_fault, no_fault, at-line, first_fault, cases_fault, member_lines_fault, members_fault, storeys_fault, trailing, lines_fault, survey_fault, survey}
 use Rattle.reading.specs.Answer.{told}
-use Rattle.reading.specs.declared.survey.Fault.{Fault}
 use Rattle.records.proofs.Firsts.{step_clear}
 use Rattle.records.proofs.Validity.{count_most}
 use Rattle.checks.proofs.Refusals.{one, rest}
@@ -20,7 +19,6 @@ use Rattle.reading.proofs.Lines.{storey-good}
 use Rattle.reading.proofs.Turns.{line_clear}
 use Rattle.reading.proofs.Accepted.{storey-checks, storey-held}
 use Rattle.reading.proofs.Numbers.{ten-storeys}
-use Rattle.reading.proofs.Numbered as Numbered
 use Rattle.exports.specs.Calls.{reading_returned}
 
 either : (t : Bool) (f g : Fault) (n : ℕ) → (t ≡ true → f.line ≤ n) → g.line ≤ n → (pick t f g).line ≤ n
@@ -110,14 +108,6 @@ module _ (s : List ℕ) (srows mrows : ℕ) where
       either (eqb own.number 0) (lines_fault (form_of s) s srows mrows n) own 20_004
       (λ e. lines-most (form_of s) s srows mrows n (ten-storeys s (line_clear 1 (header_line_fault s) (eqb-true own.number 0 e))))
       (omega (arith, at_most 1 (header_line_fault s)))
-
-  refusal-by : (t : Bool) → eqb (survey_fault s srows mrows).number 0 ≡ t → (reading_returned (told (survey s srows mrows))).refusal ≤ 12
-  unfolding survey
-  refusal-by true e = rw e (omega arith)
-  refusal-by false e = rw e (omega (arith, Numbered.fault-most s srows mrows))
-
-  pub refusal-most : (reading_returned (told (survey s srows mrows))).refusal ≤ 12
-  refusal-most = refusal-by (eqb (survey_fault s srows mrows).number 0) refl
 
   told-most : (t : Bool) → eqb (survey_fault s srows mrows).number 0 ≡ t → (reading_returned (told (survey s srows mrows))).line ≤ 65_536
   unfolding survey

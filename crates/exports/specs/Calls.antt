@@ -1,12 +1,12 @@
 -- What the calls for other languages give and leave.
-use Rattle.std.specs.Prelude.{ℕ, ◌<◌, ◌≤◌, List, [], ◌∷◌, ◌≡◌, leb, length, Bool}
+use Rattle.std.specs.Prelude.{ℕ, ◌<◌, ◌≤◌, List, [], ◌∷◌, ◌≡◌, leb, length, Bool, Result}
 use Rattle.records.specs.Notation.{pick}
 use Rattle.members.specs.Finding.{Returned}
-use Rattle.members.specs.declared.finding.Met.{Met}
+use Rattle.records.specs.declared.by_case.FourCases.{FourCases}
 use Rattle.answers.specs.Packing.{packed}
 use Rattle.reading.specs.Answer.{Told, filled, refusal}
 use Rattle.records.specs.Records.{Survey}
-use Rattle.storeys.specs.declared.BuildingAnswer.{BuildingAnswer}
+use Rattle.storeys.specs.declared.BuildingFinding.{BuildingFinding}
 use Rattle.storeys.specs.Storey.{published_rules}
 use Rattle.columns.specs.Line.{at_front}
 use Rattle.storeys.specs.Building.{Answers, returned_building}
@@ -35,7 +35,7 @@ abbrev pub file_count : ℕ
 file_count = 1
 
 -- the 0.40 condition by case
-abbrev pub met_by : Bool → Bool → Bool → Bool → Met
+abbrev pub met_by : Bool → Bool → Bool → Bool → FourCases Bool
 met_by a b c d = record { case1 = a; case2 = b; case3 = c; case4 = d }
 
 -- given where `out` is too short for the values; no refusal is packed as this
@@ -67,5 +67,5 @@ reading_returned (refusal number line) = record { refusal = number; line = line;
 -- what the call on a building gives and leaves in `out`, with room there by an answer that document 01 gives
 pub data BuildingGiven (a : Survey) (before : List ℕ) (result : ℕ) (after : List ℕ) : Type 0 where
   no_room : length before < building_count → result ≡ short → after ≡ before → BuildingGiven a before result after
-  room : building_count ≤ length before → (answer : BuildingAnswer) → Answers published_rules a answer
+  room : building_count ≤ length before → (answer : Result BuildingFinding ℕ) → Answers published_rules a answer
       → result ≡ packed (returned_building answer) → after ≡ at_front (returned_building answer).values before → BuildingGiven a before result after

@@ -6,10 +6,11 @@ ghost use Rattle.members.specs.Finding.{member_returned};
 ghost use Rattle.handed.specs.Handed.{header_handed, storey_handed, member_handed};
 ghost use Rattle.exports.specs.Calls.{member_count, storey_count, met_by, given, out_after_call, BuildingGiven};
 
-use crate::SHORT;
-use answers::survey::{put_building, put_member, put_storey};
-use handed::{header_given, member_given, storey_given};
-use members::finding::{Met, judge_member};
+use crate::{SHORT, survey_given};
+use answers::put_answer;
+use handed::{member_given, storey_given};
+use members::finding::judge_member;
+use records::by_case::FourCases;
 use records::{Member, Storey};
 use storeys::building::judge_building;
 use storeys::storey::judge_storey;
@@ -39,15 +40,13 @@ pub extern "C" fn llunareth_judge_member(
     if out.len() < MEMBER_COUNT {
         return SHORT;
     }
-    let m = member_given(values);
-    let met = Met {
+    let met = FourCases {
         case1: met1,
         case2: met2,
         case3: met3,
         case4: met4,
     };
-    let a = judge_member(k, form, met, m);
-    put_member(out, a)
+    put_answer(out, judge_member(k, form, met, &member_given(values)))
 }
 
 // A storey of a form, given by its six numbers, and its members, judged with k.
@@ -65,12 +64,10 @@ pub extern "C" fn llunareth_judge_storey(
     if out.len() < STOREY_COUNT {
         return SHORT;
     }
-    let s = storey_given(storey);
-    let r = judge_storey(k, form, s, members);
-    put_storey(out, r)
+    put_answer(out, judge_storey(k, form, &storey_given(storey), members))
 }
 
-// A building: its header, given by its seven numbers, its storeys, and the members of all of them in survey order.
+// A building.
 #[unsafe(no_mangle)]
 pub extern "C" fn llunareth_judge_building(
     header: &[u64],
@@ -83,7 +80,6 @@ pub extern "C" fn llunareth_judge_building(
     if out.len() < BUILDING_COUNT {
         return SHORT;
     }
-    let h = header_given(header);
-    let r = judge_building(h, storeys, members);
-    put_building(out, r)
+    let survey = survey_given(header, storeys, members);
+    put_answer(out, judge_building(&survey))
 }

@@ -1,5 +1,6 @@
 // The reading call.
 ghost use Rattle.std.specs.Prelude.{◌≡◌, ◌≤◌, length};
+ghost use Rattle.records.specs.Refusals.{refusal_number};
 ghost use Rattle.reading.specs.Survey.{survey};
 ghost use Rattle.reading.specs.Answer.{tells, told, storeys_after_call, members_after_call};
 ghost use Rattle.answers.specs.Packing.{packing, packed};
@@ -8,32 +9,30 @@ ghost use Rattle.columns.specs.Line.{at_front};
 
 use crate::SHORT;
 use answers::put_words;
-use reading::survey::{ReadAnswer, Reading};
+use reading::rows::read;
+use reading::survey::{Filled, LineRefusal};
+use records::refusal::Refusal;
 use records::{Member, Storey};
 
 const READING_COUNT: usize = 9;
 
 // A refusal and its line in one number. On records the line is 0, and the refusal stands for both.
-fn pack(refusal: u64, line: u64) -> u64
-    requires { (refusal ≤ 12) × (line ≤ 65_536) }
-    ensures { result ≡ packing refusal line }
+fn pack(refusal: Refusal, line: u64) -> u64
+    requires { line ≤ 65_536 }
+    ensures { result ≡ packing (refusal_number refusal) line }
 {
-    refusal + 256 * line
+    refusal.number() + 256 * line
 }
 
 // Puts the values of an accepted file: the header's seven numbers, the numbers of rows filled. Gives refusal and line.
-fn put_reading(out: &mut [u64], r: Reading) -> u64
-    requires { ((reading_returned (tells r.answer)).refusal ≤ 12) × ((reading_returned (tells r.answer)).line ≤ 65_536) }
-    ensures value { result ≡ packed (reading_returned (tells r.answer)) }
-    ensures out_after { out.new ≡ at_front (reading_returned (tells r.answer)).values out.old }
+fn put_reading(out: &mut [u64], r: Result<Filled, LineRefusal>) -> u64
+    requires { (reading_returned (tells r)).line ≤ 65_536 }
+    ensures value { result ≡ packed (reading_returned (tells r)) }
+    ensures out_after { out.new ≡ at_front (reading_returned (tells r)).values out.old }
 {
-    let a = r.answer;
-    match a {
-        ReadAnswer::Accepted {
-            header,
-            storeys,
-            members,
-        } => {
+    match r {
+        Ok(filled) => {
+            let header = filled.header;
             let values = [
                 header.knowledge,
                 header.height,
@@ -42,13 +41,13 @@ fn put_reading(out: &mut [u64], r: Reading) -> u64
                 header.tilt2,
                 header.count,
                 header.form,
-                storeys as u64,
-                members as u64,
+                filled.storeys as u64,
+                filled.members as u64,
             ];
             put_words(out, &values);
             0
         }
-        ReadAnswer::Refused { refusal, line } => pack(refusal, line),
+        Err(LineRefusal { refusal, line }) => pack(refusal, line),
     }
 }
 
@@ -68,6 +67,5 @@ pub extern "C" fn llunareth_read(
     if out.len() < READING_COUNT {
         return SHORT;
     }
-    let r = reading::rows::read(s, storeys, members);
-    put_reading(out, r)
+    put_reading(out, read(s, storeys, members))
 }

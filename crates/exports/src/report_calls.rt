@@ -7,10 +7,9 @@ ghost use Rattle.determination.specs.Determination.{printed};
 ghost use Rattle.handed.specs.Handed.{header_handed};
 ghost use Rattle.exports.specs.Calls.{report_count, if_room, given, out_after_call};
 
-use crate::SHORT;
-use answers::survey::put_report;
+use crate::{SHORT, survey_given};
+use answers::put_answer;
 use determination::determine;
-use handed::header_given;
 use records::{Member, Storey};
 use report::sheet::write_report;
 
@@ -32,9 +31,8 @@ pub extern "C" fn llunareth_report(
     if out.len() < REPORT_COUNT {
         return SHORT;
     }
-    let h = header_given(header);
-    let r = write_report(h, storeys, members, sheet);
-    put_report(out, r)
+    let survey = survey_given(header, storeys, members);
+    put_answer(out, write_report(&survey, sheet))
 }
 
 // What `determine` prints for a file, from the front of the bytes; gives its length, 0 where it does not fit. It has no refusal: the sheet or the `E` line is the answer.

@@ -6,7 +6,7 @@ ghost use Rattle.exports.specs.Calls.{given, out_after_call};
 ghost use Rattle.exports.specs.SpectrumCalls.{site_count, spectrum_count};
 
 use crate::SHORT;
-use answers::site::{put_site, put_spectrum};
+use answers::put_answer;
 use hazard::site::{Motion, site_coefficients};
 use hazard::spectrum::spectrum;
 
@@ -23,8 +23,7 @@ pub extern "C" fn llunareth_site_coefficients(class: u64, ss: u64, s1: u64, out:
     if out.len() < SITE_COUNT {
         return SHORT;
     }
-    let a = site_coefficients(class, ss, s1);
-    put_site(out, a)
+    put_answer(out, site_coefficients(class, ss, s1))
 }
 
 // The spectrum: the site's class, the building's use, S_S and S_1 of DD-1, then of DD-2, and the period.
@@ -47,6 +46,5 @@ pub extern "C" fn llunareth_spectrum(
     }
     let dd1 = Motion { ss: ss1, s1: s11 };
     let dd2 = Motion { ss: ss2, s1: s12 };
-    let a = spectrum(class, usage, dd1, dd2, period);
-    put_spectrum(out, a)
+    put_answer(out, spectrum(class, usage, dd1, dd2, period))
 }

@@ -5,9 +5,8 @@ ghost use Rattle.handed.specs.Handed.{header_handed};
 ghost use Rattle.writing.specs.Writing.{file_returned, file_after_call};
 ghost use Rattle.exports.specs.Calls.{file_count, if_room, given, out_after_call};
 
-use crate::SHORT;
-use answers::survey::put_file;
-use handed::header_given;
+use crate::{SHORT, survey_given};
+use answers::put_answer;
 use records::{Member, Storey};
 use writing::file::write_file;
 
@@ -29,7 +28,6 @@ pub extern "C" fn llunareth_write(
     if out.len() < FILE_COUNT {
         return SHORT;
     }
-    let h = header_given(header);
-    let r = write_file(h, storeys, members, file);
-    put_file(out, r)
+    let survey = survey_given(header, storeys, members);
+    put_answer(out, write_file(&survey, file))
 }

@@ -1,58 +1,28 @@
 -- Laws of the spelling of a number, column by column.
 use Prim.Native.Nat.{ℕ, zero, suc, ◌+◌, ◌-◌, ◌*◌, ◌/◌, ◌%◌, ◌^◌, ◌≤◌, ◌<◌}
 use native.Mathlib.Omega.{arith}
-use native.Mathlib.Nat.{div-lt_iff_lt-mul, not-suc-le-zero, pow-suc, pow-le-pow_right}
+use native.Mathlib.Nat.{div-lt_iff_lt-mul, pow-suc, pow-le-pow_right}
 use native.Mathlib.Numerals.{add-one}
 use mathlib.Core.Bool.{Bool, true, false, ◌&&◌}
 use mathlib.Core.List.{List, [], ◌∷◌}
-use mathlib.Core.Path.{◌≡◌, refl, sym, ◌∙◌}
-use lib.Dec.{leb, ltb, eqb, eqb-suc-zero}
-use lib.ListN.{length, take, drop, get_or}
+use mathlib.Core.Path.{◌≡◌, refl, ap}
+use lib.Dec.{leb, ltb, eqb}
+use lib.ListN.{length, drop, get_or, drop_of_length-le}
+use lib.Pointwise.{pointwise}
 use lib.Seq.{drop-cons}
-use borrow.Author.Tests.{eqb-true, ltb-true, lt-ltb, le-ltb, eq-eqb, ne_eqb, leb-true}
+use borrow.Author.Tests.{eqb-true, ltb-true, leb-true}
 use Rattle.records.specs.Notation.{pick}
-use Rattle.format.specs.Spelling.{column, spelled, same, pushed, value}
+use Rattle.format.specs.Spelling.{column, same, pushed, value}
 use Rattle.records.proofs.Below.{and_left, and_right}
 
--- ---- a column
-pub column-units : (s q k : ℕ) → k ≤ 0 → 48 + q % 10 ≡ column s q k
-unfolding column
-column-units s q zero h = refl
-column-units s q (suc k) h = absurd (not-suc-le-zero h)
-
-pub column-sign : (s q k : ℕ) → q < 10 → k ≡ 1 → s ≡ column s q k
-unfolding column
-column-sign s q k h e = rw e (simp (lt-ltb q 10 h))
-
-pub column-blank : (s q k : ℕ) → q < 10 → 0 < k → (k ≡ 1 → ⊥) → 32 ≡ column s q k
-unfolding column
-column-blank s q zero h p e = absurd (not-suc-le-zero p)
-column-blank s q (suc zero) h p e = absurd (e refl)
-column-blank s q (suc (suc k)) h p e = simp (lt-ltb q 10 h, eqb-suc-zero)
-
-pub column-tenth : (s q k : ℕ) → 10 ≤ q → 0 < k → column s (q / 10) (k - 1) ≡ column s q k
-unfolding column
-column-tenth s q zero h p = absurd (not-suc-le-zero p)
-column-tenth s q (suc k) h p = let e : suc k - 1 ≡ k = omega arith in simp (le-ltb q 10 h, e)
-
--- ---- the bytes of a part of a list, one after the other
-pub part-cons : (l : List ℕ) (j k : ℕ) → j < length l → take (k + 1) (drop j l) ≡ get_or l j 0 ∷ take k (drop (j + 1) l)
-part-cons l j k h = rw (add-one, add-one, drop-cons l j 0)
-
-pub value-more : (l : List ℕ) (v j k : ℕ) → j < length l → value v (take (k + 1) (drop j l)) ≡ value (pushed v (get_or l j 0)) (take k (drop (j + 1) l))
+-- ---- the number of some columns
+pub value-more : (l : List ℕ) (v j : ℕ) → j < length l → value v (drop j l) ≡ value (pushed v (get_or l j 0)) (drop (j + 1) l)
 unfolding value
-value-more l v j k h = rw (part-cons l j k h)
+value-more l v j h = rw (add-one, drop-cons l j 0 h)
 
--- a turn of the loop that reads them
-pub value-step : (l : List ℕ) (at i v x : ℕ) → i < 8 → at + i < length l → value v (take (8 - i) (drop (at + i) l)) ≡ x → value (pushed v (get_or l (at + i) 0)) (take (8 - (i + 1)) (drop (at + (i + 1)) l)) ≡ x
-value-step l at i v x h g e =
-    let p : 8 - i ≡ (8 - (i + 1)) + 1 = omega arith in
-    let q : at + (i + 1) ≡ (at + i) + 1 = omega arith in
-    rw (q, ← value-more l v (at + i) (8 - (i + 1)) g, ← p) e
-
-pub value_none : (v : ℕ) (l : List ℕ) → value v (take 0 l) ≡ v
+pub value-all : (l : List ℕ) (v j : ℕ) → length l ≤ j → value v (drop j l) ≡ v
 unfolding value
-value_none v l = refl
+value-all l v j h = rw (drop_of_length-le l h)
 
 digit-small : (t : Bool) (v d i : ℕ) → v < 10 ^ i → (t ≡ true → d ≤ 9) → pick t (v * 10 + d) v < 10 ^ (i + 1)
 digit-small true v d i h g = rw (add-one, pow-suc) (omega (arith, g refl))
@@ -63,29 +33,13 @@ pub pushed-small : (v b i : ℕ) → v < 10 ^ i → pushed v b < 10 ^ (i + 1)
 pushed-small v b i h =
     digit-small (leb 48 b && leb b 57) v (b - 48) i h (λ e. omega (arith, leb-true b 57 (and_right (leb 48 b) (leb b 57) e)))
 
-pub eight : (v i : ℕ) → v < 10 ^ i → i ≤ 8 → v < 100_000_000
-eight v i h l = omega (arith, pow-le-pow_right {n = 10} (omega arith) {i = i} {j = 8} l)
-
 -- ---- a comparison with a spelling
-pub same_none : (l : List ℕ) (k s n : ℕ) → k ≤ 0 → true ≡ same (take k l) (spelled k s n)
-unfolding same spelled
-same_none l zero s n h = refl
-same_none l (suc k) s n h = absurd (not-suc-le-zero h)
-
-pub same_more : (l : List ℕ) (j k s n : ℕ) → j < length l → same (take (k + 1) (drop j l)) (spelled (k + 1) s n) ≡ (eqb (get_or l j 0) (column s n k) && same (take k (drop (j + 1) l)) (spelled k s n))
-unfolding same spelled
-same_more l j k s n h = rw (part-cons l j k h, add-one k)
-
--- a turn of the loop that compares them: the column before the ones left differs, or it does not
-pub same_differs : (l : List ℕ) (j k s n : ℕ) (x : Bool) → j < length l → 0 < k → (get_or l j 0 ≡ column s n (k - 1) → ⊥) → same (take k (drop j l)) (spelled k s n) ≡ x → false ≡ x
-same_differs l j k s n x h p ne e =
-    let q : k ≡ (k - 1) + 1 = omega arith in
-    sym (sym (rw q at e) ∙ rw (same_more l j (k - 1) s n h, ne_eqb _ _ ne))
-
-pub same_step : (l : List ℕ) (j k s n : ℕ) (x : Bool) → j < length l → 0 < k → get_or l j 0 ≡ column s n (k - 1) → same (take k (drop j l)) (spelled k s n) ≡ x → same (take (k - 1) (drop (j + 1) l)) (spelled (k - 1) s n) ≡ x
-same_step l j k s n x h p eq e =
-    let q : k ≡ (k - 1) + 1 = omega arith in
-    rw (same_more l j (k - 1) s n h, eq-eqb _ _ eq) at (rw q at e)
+pub same_pointwise : (xs ys : List ℕ) → same xs ys ≡ pointwise eqb xs ys
+unfolding same
+same_pointwise [] [] = refl
+same_pointwise [] (y ∷ ys) = refl
+same_pointwise (x ∷ xs) [] = refl
+same_pointwise (x ∷ xs) (y ∷ ys) = ap (λ b. eqb x y && b) (same_pointwise xs ys)
 
 pub same-eq : (xs ys : List ℕ) → same xs ys ≡ true → xs ≡ ys
 unfolding same

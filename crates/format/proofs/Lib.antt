@@ -1,4 +1,5 @@
 pub mod Columns
+pub mod Digits
 pub mod Written
 pub mod Spelt
 pub mod Scan

@@ -4,13 +4,12 @@ use native.Mathlib.Omega.{arith}
 use native.Mathlib.Nat.{not-suc-le-zero}
 use mathlib.Core.Bool.{Bool, true, false}
 use mathlib.Core.List.{List, [], ◌∷◌, ◌++◌, append_assoc}
-use mathlib.Core.Option
-use mathlib.Core.Option.{Option, some, none}
 use mathlib.Core.Path.{◌≡◌, refl, ap, sym, ◌∙◌}
 use lib.Dec.{eqb}
 use lib.ListN.{length, take, drop, get_or, length-drop, take-append-drop}
 use lib.Seq.{drop-cons, drop-drop, get_or-drop}
 use borrow.Author.Tests.{eqb-true}
+use Rattle.std.specs.Prelude.{Option, Some, None, unwrap_or}
 use Rattle.records.specs.Notation.{pick}
 use Rattle.records.specs.Records.{Allowed, fields, in_cases, storey_kind, member_kind, header_values, storey_values, storey_by, case_of}
 use Rattle.format.specs.Lines.{tag_byte, line_size, line_end, shaped, is_force, field_at, value_at, fault_in, field_fault, fields_fault, header_at, storey_at, case_start, case_lines, member_size, case_at, member_at}
@@ -44,9 +43,9 @@ unfolding line_end
 end-byte [] h = absurd (not-suc-le-zero h)
 end-byte (b ∷ l) h = by_byte (eqb b 10) b (line_end l) l refl (end-byte l) h
 
-held : (o : Option ℕ) (a : Allowed) → fault_in o a ≡ 0 → o ≡ some (Option.get_or o 0)
-held (some v) a e = refl
-held none a e = let z : ⊥ = omega (arith, e) in absurd z
+held : (o : Option ℕ) (a : Allowed) → fault_in o a ≡ 0 → o ≡ Some (unwrap_or o 0)
+held (Some v) a e = refl
+held None a e = let z : ⊥ = omega (arith, e) in absurd z
 
 module _ (kind : Kind) (s : List ℕ) (at : ℕ) (w : fields_fault kind s at ≡ 0) where
   field-text : (j : ℕ) → j < fields kind → take 8 (drop (at + 1 + 8 * j) s) ≡ field_text (is_force kind j) (value_at kind s at j)
@@ -84,13 +83,6 @@ module _ (kind : Kind) (s : List ℕ) (at : ℕ) (c : Clean kind s at) where
 -- ---- where they lie
 pub clean-fits : {kind : Kind} {s : List ℕ} {at : ℕ} → Clean kind s at → at + line_size kind ≤ length s
 clean-fits {kind} {s} {at} c = omega (arith, shaped-fits kind s at c.form)
-
-members-fit : (t : Bool) (form : ℕ) (s : List ℕ) (at : ℕ) → in_cases form ≡ t → MemberClean form s at → at + member_size form ≤ length s
-members-fit true form s at e c = let k = clean-fits (rw e at c.cases 3 (omega arith)) in rw e (omega arith)
-members-fit false form s at e c = let k = rw e at (clean-fits c.line) in rw e (omega arith)
-
-pub member-fits : {form : ℕ} {s : List ℕ} {at : ℕ} → MemberClean form s at → at + member_size form ≤ length s
-member-fits {form} {s} {at} c = members-fit (in_cases form) form s at refl c
 
 -- ---- the lines of records
 pub header-text : (form : ℕ) (s : List ℕ) (at : ℕ) → Clean B s at → drop at s ≡ line_text B (header_values (header_at form s at)) ++ drop (at + line_size B) s

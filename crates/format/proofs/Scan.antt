@@ -1,25 +1,24 @@
 -- A field's columns taken from the left, each by what the ones before it make: that agrees with the spelling of the number.
 use Prim.Native.Nat.{ℕ, zero, suc, ◌+◌, ◌-◌, ◌*◌, ◌/◌, ◌^◌, ◌≤◌, ◌<◌}
 use native.Mathlib.Omega.{arith}
+use native.Mathlib.Numerals.{add-one}
 use native.Mathlib.Nat.{pow-suc, div-div-eq-div-mul, div-lt_iff_lt-mul, div-eq_of_lt, pow-le-pow_right}
 use mathlib.Core.Bool.{Bool, true, false, not, ◌&&◌, ◌||◌, and-true, and-false}
 use mathlib.Core.List.{List, [], ◌∷◌}
 use mathlib.Core.Logic.{◌⊎◌, inl, inr, ⊎_elim}
-use mathlib.Core.Option.{Option, some, none}
 use mathlib.Core.Path.{◌≡◌, refl, ap, sym, ◌∙◌}
 use lib.Dec.{leb, ltb, eqb}
-use lib.ListN.{length, take, drop, get_or, length-drop}
-use lib.Seq.{length-take-le}
+use lib.ListN.{length, take, drop, get_or, length-drop, drop_of_length-le}
+use lib.Seq.{drop-cons}
 use borrow.Author.Tests.{ltb-true, leb-true, eqb-true, eqb-false, lt-ltb, le-leb, eq-eqb, ne_eqb, not-true}
+use Rattle.std.specs.Prelude.{Option, Some, None, is_some, IfSome}
+use Rattle.std.proofs.lemmas.List.{length-take-le, get_or-take, get_or-drop}
 use Rattle.records.specs.Notation.{pick}
 use Rattle.format.specs.Steps.{continues}
-use Rattle.format.specs.Lines.{field_step}
 use Rattle.records.specs.Records.{zero_force}
-use Rattle.format.specs.declared.cursor.Cursor.{Cursor}
-use Rattle.format.specs.declared.cursor.Field.TheVariants.{Number, Refused}
 use Rattle.format.specs.Spelling.{column, spelled, same, pushed, value, written, minus_of, field_of}
 use Rattle.records.proofs.Below.{and_left, and_right}
-use Rattle.format.proofs.Columns.{part-cons, blank-digits}
+use Rattle.format.proofs.Columns.{blank-digits}
 use Rattle.format.proofs.Spelt.{push-column, plain-blank, written_small}
 
 iff : (a b : Bool) → (a ≡ true → b ≡ true) → (b ≡ true → a ≡ true) → a ≡ b
@@ -123,22 +122,22 @@ module _ (n w : ℕ) where
 
 -- ---- all the columns
 unfoldable pub scanned : ℕ → List ℕ → Option ℕ
-scanned v [] = some v
-scanned v (b ∷ t) = pick (continues v b (eqb (length t) 0)) (scanned (pushed v b) t) none
+scanned v [] = Some v
+scanned v (b ∷ t) = pick (continues v b (eqb (length t) 0)) (scanned (pushed v b) t) None
 
-pick-none : (g : Bool) → pick {A = Option ℕ} g none none ≡ none
+pick-none : (g : Bool) → pick {A = Option ℕ} g None None ≡ None
 pick-none true = refl
 pick-none false = refl
 
-pick-both : (g e : Bool) (n : ℕ) → pick g (pick e (some n) none) none ≡ pick (g && e) (some n) none
+pick-both : (g e : Bool) (n : ℕ) → pick g (pick e (Some n) None) None ≡ pick (g && e) (Some n) None
 pick-both true e n = refl
 pick-both false e n = refl
 
-picks : (a b g e x : Bool) (n : ℕ) → (a && b) ≡ (g && e) → pick g (pick (x && e) (some n) none) none ≡ pick ((a && x) && b) (some n) none
+picks : (a b g e x : Bool) (n : ℕ) → (a && b) ≡ (g && e) → pick g (pick (x && e) (Some n) None) None ≡ pick ((a && x) && b) (Some n) None
 picks a b g e true n h = pick-both g e n ∙ rw (← h, and-true a)
 picks a b g e false n h = pick-none g ∙ rw (and-false a)
 
-pub scanned-is : (t : List ℕ) (v : ℕ) → scanned v t ≡ pick (same t (spelled (length t) 32 (value v t)) && eqb (value v t / 10 ^ length t) v) (some (value v t)) none
+pub scanned-is : (t : List ℕ) (v : ℕ) → scanned v t ≡ pick (same t (spelled (length t) 32 (value v t)) && eqb (value v t / 10 ^ length t) v) (Some (value v t)) None
 unfolding scanned same spelled value
 scanned-is [] v = let e : v / 10 ^ 0 ≡ v = omega arith in rw (e, eq-eqb v v refl)
 scanned-is (b ∷ t) v =
@@ -155,71 +154,86 @@ and-swap : (a b : Bool) → (a && b) ≡ (b && a)
 and-swap true b = sym (and-true b)
 and-swap false b = sym (and-false b)
 
-by-blank : (q : Bool) (b : ℕ) (t : List ℕ) → eqb b 32 ≡ q → length t ≡ 7 → field_of false (b ∷ t) ≡ pick q (scanned 0 t) none
+by-blank : (q : Bool) (b : ℕ) (t : List ℕ) → eqb b 32 ≡ q → length t ≡ 7 → field_of false (b ∷ t) ≡ pick q (scanned 0 t) None
 unfolding field_of written same spelled value
 by-blank true b t e h =
     let f = eqb-true b 32 e in
     rw (f, scanned-is t 0, h, blank-or-none (value 0 t), and-swap (eqb (value 0 t / 10 ^ 7) 0) (same t (spelled 7 32 (value 0 t))))
 by-blank false b t e h = rw e
 
--- ---- the field at a place of a file
-module _ (l : List ℕ) (at : ℕ) (h : at + 8 ≤ length l) where
-  rest-length : (i : ℕ) → i < 8 → length (take (8 - (i + 1)) (drop (at + (i + 1)) l)) ≡ 8 - (i + 1)
-  rest-length i g = length-take-le (8 - (i + 1)) (drop (at + (i + 1)) l) (rw (length-drop (at + (i + 1)) l) (omega (arith, h, g)))
+-- ---- a field's columns from the second on
+module _ (l : List ℕ) (h : length l ≡ 8) where
+  rest-length : (i : ℕ) → i < 8 → length (drop (suc i) l) ≡ 8 - (i + 1)
+  rest-length i g = length-drop (suc i) l ∙ rw h (omega arith)
 
-  parts : take 8 (drop at l) ≡ get_or l at 0 ∷ take 7 (drop (at + 1) l)
-  parts = part-cons l at 7 (omega (arith, h))
+  parts : l ≡ get_or l 0 0 ∷ drop 1 l
+  parts = drop-cons l 0 0 (omega (arith, h))
 
-  pub no-blank-first : (get_or l at 0 ≡ 32 → ⊥) → field_of false (take 8 (drop at l)) ≡ none
-  no-blank-first ne = rw (parts, by-blank false (get_or l at 0) (take 7 (drop (at + 1) l)) (ne_eqb _ _ ne) (rest-length 0 (omega arith)))
+  pub no-blank-first : (get_or l 0 0 ≡ 32 → ⊥) → None ≡ field_of false l
+  no-blank-first ne = sym (ap (field_of false) parts ∙ by-blank false (get_or l 0 0) (drop 1 l) (ne_eqb _ _ ne) (rest-length 0 (omega arith)))
 
-  pub scan-starts : get_or l at 0 ≡ 32 → scanned 0 (take 7 (drop (at + 1) l)) ≡ field_of false (take 8 (drop at l))
-  scan-starts e = rw (parts, by-blank true (get_or l at 0) (take 7 (drop (at + 1) l)) (eq-eqb _ _ e) (rest-length 0 (omega arith)))
+  pub scan-starts : get_or l 0 0 ≡ 32 → scanned 0 (drop 1 l) ≡ field_of false l
+  scan-starts e = sym (ap (field_of false) parts ∙ by-blank true (get_or l 0 0) (drop 1 l) (eq-eqb _ _ e) (rest-length 0 (omega arith)))
 
-  last-is : (i : ℕ) → i < 8 → eqb (8 - (i + 1)) 0 ≡ eqb i 7
-  last-is i g = iff (eqb (8 - (i + 1)) 0) (eqb i 7) (λ e. eq-eqb i 7 (omega (arith, g, eqb-true (8 - (i + 1)) 0 e))) (λ e. eq-eqb (8 - (i + 1)) 0 (omega (arith, eqb-true i 7 e)))
-
-  module _ (i v : ℕ) (x : Option ℕ) (g : i < 8) (e : scanned v (take (8 - i) (drop (at + i) l)) ≡ x) where
-    turn : pick (continues v (get_or l (at + i) 0) (eqb i 7)) (scanned (pushed v (get_or l (at + i) 0)) (take (8 - (i + 1)) (drop (at + (i + 1)) l))) none ≡ x
+  -- column i, which is b; it is the last where i is 7
+  module _ (i v b : ℕ) (last : Bool) (x : Option ℕ) (g : i < 8) (p : b ≡ get_or l i 0) (q : eqb (8 - (i + 1)) 0 ≡ last) (e : scanned v (drop i l) ≡ x) where
+    turn : pick (continues v b last) (scanned (pushed v b) (drop (i + 1) l)) None ≡ x
     unfolding scanned
-    turn =
-        let k : 8 - i ≡ (8 - (i + 1)) + 1 = omega (arith, g) in
-        let q : at + (i + 1) ≡ at + i + 1 = omega arith in
-        let p : take (8 - i) (drop (at + i) l) ≡ get_or l (at + i) 0 ∷ take (8 - (i + 1)) (drop (at + (i + 1)) l) = rw (k, q) (part-cons l (at + i) (8 - (i + 1)) (omega (arith, h, g))) in
-        rw (p, rest-length i g, last-is i g) at e
+    turn = rw (p, add-one) (rw (drop-cons l i 0 (omega (arith, h, g)), rest-length i g, q) at e)
 
-    pub scan-stops : continues v (get_or l (at + i) 0) (eqb i 7) ≡ false → none ≡ x
+    pub scan-stops : continues v b last ≡ false → None ≡ x
     scan-stops f = rw f at turn
 
-    pub scan-goes : continues v (get_or l (at + i) 0) (eqb i 7) ≡ true → scanned (pushed v (get_or l (at + i) 0)) (take (8 - (i + 1)) (drop (at + (i + 1)) l)) ≡ x
+    pub scan-goes : continues v b last ≡ true → scanned (pushed v b) (drop (i + 1) l) ≡ x
     scan-goes f = rw f at turn
 
-pub scan-ends : (v i : ℕ) (l : List ℕ) (x : Option ℕ) → 8 ≤ i → scanned v (take (8 - i) l) ≡ x → some v ≡ x
-unfolding scanned
-scan-ends v i l x g e = let k : 8 - i ≡ 0 = omega (arith, g) in rw k at e
+  -- the last
+  pub scan-ends : (v b : ℕ) (x : Option ℕ) → b ≡ get_or l 7 0 → scanned v (drop 7 l) ≡ x → pick (continues v b true) (Some (pushed v b)) None ≡ x
+  unfolding scanned
+  scan-ends v b x p e =
+      let k : length l ≤ 8 = omega (arith, h) in
+      rw (drop_of_length-le l k) at (turn 7 v b true x (omega arith) p refl e)
+
+  -- the columns between the first and the last, of a slice of all
+  module _ (s : List ℕ) (e : s ≡ l) where
+    pub middle-long : length (take (length s - 1 - 1) (drop 1 s)) ≡ 6
+    middle-long = rw (e, h) (length-take-le 6 (drop 1 l) (omega (arith, length-drop 1 l, h)))
+
+    pub middle-at : (i : ℕ) → i < 6 → get_or (take (length s - 1 - 1) (drop 1 s)) i 0 ≡ get_or l (i + 1) 0
+    middle-at i g =
+        let z : 1 + i ≡ i + 1 = omega arith in
+        rw (e, h) (get_or-take 6 (drop 1 l) i 0 g ∙ get_or-drop 1 l i 0 ∙ ap (λ k. get_or l k 0) z)
+
+    pub last-at : get_or s (length s - 1) 0 ≡ get_or l 7 0
+    last-at = rw (e, h) refl
+
+-- what `then` makes
+pub made-then : (o : Option ℕ) (b : Bool) (n : ℕ) (P : ℕ → Type 0) → is_some o ≡ b → IfSome o P → ((v : ℕ) → P v → v ≡ n) → o ≡ pick b (Some n) None
+made-then (Some v) b n P e p f = rw (← e) (ap Some (f v p))
+made-then None b n P e p f = rw (← e) refl
 
 -- ---- N_D and N_K without a minus, and then with one
-small_plain : (q : Bool) (t : List ℕ) (n next : ℕ) (c : Cursor) → written 32 t ≡ q → Number n c ≡ field_step (pick q (some (value 0 t)) none) next → n ≤ 9_999_999
-small_plain true t n next c w e = let f : n ≡ value 0 t = cc in rw f (written_small t w)
-small_plain false t n next c w e = let z : ◌≡◌ {A = ℕ} 0 1 = cc in absurd (omega arith)
+small_plain : (q : Bool) (t : List ℕ) (n : ℕ) → written 32 t ≡ q → Some n ≡ pick q (Some (value 0 t)) None → n ≤ 9_999_999
+small_plain true t n w e = let f : n ≡ value 0 t = cc in rw f (written_small t w)
+small_plain false t n w e = let z : ◌≡◌ {A = ℕ} 0 1 = cc in absurd (omega arith)
 
-plain-force : (q : Bool) (t : List ℕ) (n next : ℕ) (c : Cursor) → Number n c ≡ field_step (pick q (some (value 0 t)) none) next → Number (zero_force + n) (record { at = next }) ≡ field_step (pick q (some (zero_force + value 0 t)) (minus_of t)) next
-plain-force true t n next c e = cc
-plain-force false t n next c e = let z : ◌≡◌ {A = ℕ} 0 1 = cc in absurd (omega arith)
+plain-force : (q : Bool) (t : List ℕ) (n : ℕ) → Some n ≡ pick q (Some (value 0 t)) None → Some (zero_force + n) ≡ pick q (Some (zero_force + value 0 t)) (minus_of t)
+plain-force true t n e = cc
+plain-force false t n e = let z : ◌≡◌ {A = ℕ} 0 1 = cc in absurd (omega arith)
 
-minus-force : (q : Bool) (t : List ℕ) (next r : ℕ) (c : Cursor) → Refused r c ≡ field_step (pick q (some (value 0 t)) none) next → minus_of t ≡ pick q (some (zero_force + value 0 t)) (minus_of t)
-minus-force true t next r c e = let z : ◌≡◌ {A = ℕ} 0 1 = cc in absurd (omega arith)
-minus-force false t next r c e = refl
+minus-force : (q : Bool) (t : List ℕ) → None ≡ pick q (Some (value 0 t)) None → minus_of t ≡ pick q (Some (zero_force + value 0 t)) (minus_of t)
+minus-force true t e = let z : ◌≡◌ {A = ℕ} 0 1 = cc in absurd (omega arith)
+minus-force false t e = refl
 
-module _ (t : List ℕ) (next : ℕ) (c : Cursor) where
-  pub force-small : (n : ℕ) → Number n c ≡ field_step (field_of false t) next → n ≤ 9_999_999
+module _ (t : List ℕ) where
+  pub force-small : (n : ℕ) → Some n ≡ field_of false t → n ≤ 9_999_999
   unfolding field_of
-  force-small n e = small_plain (written 32 t) t n next c refl e
+  force-small n e = small_plain (written 32 t) t n refl e
 
-  pub force-number : (n : ℕ) → Number n c ≡ field_step (field_of false t) next → Number (zero_force + n) (record { at = next }) ≡ field_step (field_of true t) next
+  pub force-number : (n : ℕ) → Some n ≡ field_of false t → Some (zero_force + n) ≡ field_of true t
   unfolding field_of
-  force-number n e = plain-force (written 32 t) t n next c e
+  force-number n e = plain-force (written 32 t) t n e
 
-  pub force-else : (r : ℕ) → Refused r c ≡ field_step (field_of false t) next → minus_of t ≡ field_of true t
+  pub force-else : None ≡ field_of false t → minus_of t ≡ field_of true t
   unfolding field_of
-  force-else r e = minus-force (written 32 t) t next r c e
+  force-else e = minus-force (written 32 t) t e

@@ -1,19 +1,21 @@
 -- Laws of a line's end and shape.
-use Prim.Native.Nat.{ℕ, ◌+◌, ◌*◌, ◌-◌, ◌≤◌, ◌<◌}
+use Prim.Native.Nat.{ℕ, suc, ◌+◌, ◌*◌, ◌≤◌, ◌<◌}
 use native.Mathlib.Omega.{arith}
 use native.Mathlib.Numerals.{add-one}
-use mathlib.Core.Bool.{true, false, and-false}
-use mathlib.Core.List.{List}
+use mathlib.Core.Bool.{Bool, true, false, cond, not, ◌&&◌, and-false}
+use mathlib.Core.List.{List, [], ◌∷◌}
 use mathlib.Core.Path.{◌≡◌, refl, ap, sym, ◌∙◌}
 use lib.Dec.{ltb, eqb}
-use lib.ListN.{length, drop, get_or, length-drop, drop_of_length-le}
-use lib.Seq.{drop-cons, get_or-drop}
-use borrow.Author.Tests.{eqb-true, eq-eqb, ne_eqb, lt-ltb, le-ltb, ltb-true, ltb-false}
+use lib.ListN.{length, drop, get_or, length-drop}
+use lib.Seq.{drop-cons}
+use borrow.Author.Tests.{eqb-true, eq-eqb, ne_eqb, ltb-true, ltb-false}
+use Rattle.std.specs.Prelude.{Option, Some, None, unwrap_or}
+use Rattle.std.specs.List.{position_or_len}
+use Rattle.records.specs.Notation.{pick}
 use Rattle.records.specs.Records.{fields}
-use Rattle.format.specs.Lines.{tag_byte, line_end, shaped}
+use Rattle.format.specs.Lines.{tag_byte, line_end, shaped, framed}
 use Rattle.records.specs.declared.Kind.{Kind}
-use Rattle.records.specs.declared.Kind.TheVariants.{B, S, M, S4, M4, D}
-use Rattle.records.proofs.Below.{agree, and_left, and_right}
+use Rattle.records.proofs.Below.{and_left, and_right}
 
 module _ (l : List ℕ) (i : ℕ) where
   pub end-here : i < length l → get_or l i 0 ≡ 10 → line_end (drop i l) ≡ 0
@@ -24,9 +26,33 @@ module _ (l : List ℕ) (i : ℕ) where
   unfolding line_end
   end_later h ne = rw (drop-cons l i 0 h, ne_eqb _ _ ne, add-one i) (sym (add-one _))
 
-  pub end_none : length l ≤ i → line_end (drop i l) ≡ 0
-  unfolding line_end
-  end_none h = rw (drop_of_length-le l h)
+-- the place of the first LF, where there is one
+end-more : (t : Bool) (e : ℕ) → pick t 0 (suc e) ≡ cond (not t) (1 + e) 0
+end-more true e = refl
+end-more false e = omega arith
+
+end-place : (l : List ℕ) → line_end l ≡ position_or_len (λ b. eqb b 10) l
+unfolding line_end
+end-place [] = refl
+end-place (b ∷ l) = end-more (eqb b 10) (line_end l) ∙ ap (λ (e : ℕ). cond (not (eqb b 10)) (1 + e) 0) (end-place l)
+
+step-most : (t : Bool) (e n : ℕ) → e ≤ n → pick t 0 (suc e) ≤ suc n
+step-most true e n h = omega arith
+step-most false e n h = omega arith
+
+end-most : (l : List ℕ) → line_end l ≤ length l
+unfolding line_end
+end-most [] = omega arith
+end-most (b ∷ l) = step-most (eqb b 10) (line_end l) (length l) (end-most l)
+
+or-all : (t : Bool) (e n : ℕ) → ltb e n ≡ t → e ≤ n → unwrap_or (cond t (Some e) None) n ≡ e
+or-all true e n q h = refl
+or-all false e n q h = omega (arith, ltb-false e n q)
+
+pub end-found : (l : List ℕ) (o : Option ℕ) (r : ℕ) → o ≡ cond (ltb (position_or_len (λ b. eqb b 10) l) (length l)) (Some (position_or_len (λ b. eqb b 10) l)) None → r ≡ unwrap_or o (length l) → r ≡ line_end l
+end-found l o r e f =
+    let p = end-place l in
+    f ∙ rw (e, ← p) (or-all (ltb (line_end l) (length l)) (line_end l) (length l) refl (end-most l))
 
 -- a line of the expected shape lies within the file
 pub shaped-fits : (t : Kind) (s : List ℕ) (at : ℕ) → shaped t (drop at s) ≡ true → at + 2 + 8 * fields t ≤ length s
@@ -43,38 +69,27 @@ shaped-end t s at e =
     let a = and_right (eqb (get_or (drop at s) 0 0) (tag_byte t)) _ e in
     eqb-true (line_end (drop at s)) (8 * fields t + 1) (and_left (eqb (line_end (drop at s)) (8 * fields t + 1)) _ a)
 
-shift-test : (a b k : ℕ) → a ≤ b → ltb (a + k) b ≡ ltb k (b - a)
-shift-test a b k h =
-    agree _ _ (λ e. lt-ltb k (b - a) (omega (arith, ltb-true (a + k) b e))) (λ e. le-ltb k (b - a) (omega (arith, ltb-false (a + k) b e)))
+-- an LF stands where the first one is found
+end-by : (t : Bool) (b : ℕ) (l : List ℕ) → eqb b 10 ≡ t → (line_end l < length l → get_or l (line_end l) 0 ≡ 10) → pick t 0 (suc (line_end l)) < suc (length l) → get_or (b ∷ l) (pick t 0 (suc (line_end l))) 0 ≡ 10
+end-by true b l e f h = eqb-true b 10 e
+end-by false b l e f h = f (omega arith)
 
--- no tag is 0, which stands past the end
-tag-some : (t : Kind) → eqb 0 (tag_byte t) ≡ false
-tag-some B = refl
-tag-some S = refl
-tag-some M = refl
-tag-some S4 = refl
-tag-some M4 = refl
-tag-some D = refl
+end-is : (l : List ℕ) → line_end l < length l → get_or l (line_end l) 0 ≡ 10
+unfolding line_end
+end-is [] h = absurd (omega arith)
+end-is (b ∷ l) h = end-by (eqb b 10) b l refl (end-is l) h
 
-module _ (l : List ℕ) (at : ℕ) (t : Kind) where
-  head : get_or (drop at l) 0 0 ≡ get_or l at 0
-  head = let e : at + 0 ≡ at = omega arith in get_or-drop at l 0 0 ∙ ap (λ (k : ℕ). get_or l k 0) e
+shape-tests : (long tag lf first : Bool) → (long ≡ true → first ≡ true → lf ≡ true) → ((long && (tag && lf)) && first) ≡ (tag && (first && long))
+shape-tests true true lf true f = rw (f refl refl)
+shape-tests true true lf false f = and-false lf
+shape-tests true false lf first f = refl
+shape-tests false tag lf first f = simp and-false
 
-  pub not-begun : length l ≤ at → false ≡ shaped t (drop at l)
-  unfolding shaped
-  not-begun h = rw (drop_of_length-le l h, tag-some t)
-
-  pub not-tagged : (get_or l at 0 ≡ tag_byte t → ⊥) → false ≡ shaped t (drop at l)
-  unfolding shaped
-  not-tagged ne = rw (head, ne_eqb _ _ ne)
-
-  pub not-long : (line_end (drop at l) ≡ 8 * fields t + 1 → ⊥) → false ≡ shaped t (drop at l)
-  unfolding shaped
-  not-long ne = rw (ne_eqb _ _ ne) (simp and-false)
-
-  pub by_end : (end n : ℕ) → at ≤ length l → get_or l at 0 ≡ tag_byte t → end ≡ at + line_end (drop at l) → n ≡ fields t → end - at ≡ 8 * n + 1 → ltb end (length l) ≡ shaped t (drop at l)
-  unfolding shaped
-  by_end end n h e f g k =
-      let p : line_end (drop at l) ≡ 8 * fields t + 1 = omega arith in
-      let q : end ≡ at + (8 * fields t + 1) = omega arith in
-      rw (head, eq-eqb _ _ e, eq-eqb _ _ p, q, shift-test at (length l) (8 * fields t + 1) h, ← length-drop at l)
+-- a line of the expected shape has its tag and its LF where they must stand, and no LF before that one
+pub framed_first : (t : Kind) (l : List ℕ) → (framed t l && eqb (line_end l) (8 * fields t + 1)) ≡ shaped t l
+unfolding shaped
+framed_first t l =
+    shape-tests (ltb (8 * fields t + 1) (length l)) (eqb (get_or l 0 0) (tag_byte t)) (eqb (get_or l (8 * fields t + 1) 0) 10) (eqb (line_end l) (8 * fields t + 1)) (λ h e.
+    let p = eqb-true (line_end l) (8 * fields t + 1) e in
+    let b = ltb-true (8 * fields t + 1) (length l) h in
+    eq-eqb _ _ (rw p at (end-is l (omega (arith, p, b)))))

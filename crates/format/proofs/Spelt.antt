@@ -5,11 +5,11 @@ use native.Mathlib.Nat.{pow-suc, pow-succ', div-div-eq-div-mul, div-lt_iff_lt-mu
 use mathlib.Core.Bool.{Bool, true, false, ◌&&◌, and-false}
 use mathlib.Core.List.{List, [], ◌∷◌}
 use mathlib.Core.Logic.{⊎_elim}
-use mathlib.Core.Option.{some, none}
 use mathlib.Core.Path.{◌≡◌, refl, ap, sym, ◌∙◌}
 use lib.Dec.{leb, ltb, eqb, eqb-suc-zero}
 use lib.ListN.{get_or}
 use borrow.Author.Tests.{eqb-true, leb-true, leb-false, ltb-true, ltb-false, lt-ltb, le-ltb, eq-eqb, le-leb, lt-leb}
+use Rattle.std.specs.Prelude.{Some, None}
 use Rattle.records.specs.Notation.{pick}
 use Rattle.records.specs.Records.{zero_force}
 use Rattle.format.specs.Spelling.{column, spelled, same, pushed, value, written, minus_of, field_of}
@@ -17,7 +17,7 @@ use Rattle.format.specs.Text.{field_text}
 use Rattle.format.specs.Steps.{Spellable}
 use Rattle.records.proofs.Below.{and_left, and_right}
 use Rattle.format.proofs.Columns.{same-eq, blank-digits}
-use Rattle.format.proofs.Written.{minus-small}
+use Rattle.format.proofs.Written.{written-small}
 
 -- ---- the digits of a spelling make the number
 push-digit : (v d : ℕ) → d ≤ 9 → pushed v (48 + d) ≡ v * 10 + d
@@ -138,7 +138,7 @@ not_plain n h = rw (value-spelled 45 refl 8 n (omega arith), unlike n h) (simp a
 written-plain : (n : ℕ) → n ≤ 9_999_999 → written 32 (spelled 8 32 n) ≡ true
 written-plain n h = written-spelled 32 n refl (omega arith) (plain-blank 7 n (omega arith) (omega arith))
 
-by-force : (t : Bool) (v : ℕ) → leb zero_force v ≡ t → Spellable true v → field_of true (pick t (spelled 8 32 (v - zero_force)) (spelled 8 45 (zero_force - v))) ≡ some v
+by-force : (t : Bool) (v : ℕ) → leb zero_force v ≡ t → Spellable true v → field_of true (pick t (spelled 8 32 (v - zero_force)) (spelled 8 45 (zero_force - v))) ≡ Some v
 unfolding field_of minus_of
 by-force true v e h =
     let l = leb-true zero_force v e in
@@ -150,7 +150,7 @@ by-force false v e h =
     rw (not_plain (zero_force - v) (omega arith), written-spelled 45 (zero_force - v) refl (omega arith) (minus-blank 6 (zero_force - v) (omega arith) (omega arith)), value-spelled 45 refl 8 (zero_force - v) (omega arith), lt-ltb 0 (zero_force - v) (omega arith), q)
 
 -- reading what was written gives the number
-pub read-field : (force : Bool) (v : ℕ) → Spellable force v → field_of force (field_text force v) ≡ some v
+pub read-field : (force : Bool) (v : ℕ) → Spellable force v → field_of force (field_text force v) ≡ Some v
 unfolding field_of field_text
 read-field false v h = rw (written-plain v h, value-spelled 32 refl 8 v (omega arith))
 read-field true v h = by-force (leb zero_force v) v refl h
@@ -169,7 +169,7 @@ written_small t w =
     omega arith
 
 -- the number of a choice between one and none
-some_of : (t : Bool) (a v : ℕ) → pick t (some a) none ≡ some v → (t ≡ true) × (a ≡ v)
+some_of : (t : Bool) (a v : ℕ) → pick t (Some a) None ≡ Some v → (t ≡ true) × (a ≡ v)
 some_of true a v e = (refl, cc)
 some_of false a v e = let z : ◌≡◌ {A = ℕ} 0 1 = cc in absurd (omega arith)
 
@@ -196,14 +196,14 @@ wrote-below t n v e h p q =
 wrote-minus : (t : List ℕ) (v : ℕ) → ((written 45 t && ltb 0 (value 0 t)) ≡ true) × (zero_force - value 0 t ≡ v) → Spells true t v
 wrote-minus t v h =
     let w = and_left (written 45 t) (ltb 0 (value 0 t)) h.0 in
-    wrote-below t (value 0 t) v (written_is 45 t w) (omega (arith, minus-small t w)) (ltb-true 0 (value 0 t) (and_right (written 45 t) (ltb 0 (value 0 t)) h.0)) h.1
+    wrote-below t (value 0 t) v (written_is 45 t w) (omega (arith, written-small t w)) (ltb-true 0 (value 0 t) (and_right (written 45 t) (ltb 0 (value 0 t)) h.0)) h.1
 
-wrote-force : (b : Bool) (t : List ℕ) (v : ℕ) → written 32 t ≡ b → pick b (some (zero_force + value 0 t)) (pick (written 45 t && ltb 0 (value 0 t)) (some (zero_force - value 0 t)) none) ≡ some v → Spells true t v
+wrote-force : (b : Bool) (t : List ℕ) (v : ℕ) → written 32 t ≡ b → pick b (Some (zero_force + value 0 t)) (pick (written 45 t && ltb 0 (value 0 t)) (Some (zero_force - value 0 t)) None) ≡ Some v → Spells true t v
 wrote-force true t v w e = wrote-above t (value 0 t) v (written_is 32 t w) (written_small t w) (cc)
 wrote-force false t v w e = wrote-minus t v (some_of (written 45 t && ltb 0 (value 0 t)) (zero_force - value 0 t) v e)
 
 -- writing what was read gives the bytes
-pub write-field : (force : Bool) (t : List ℕ) (v : ℕ) → field_of force t ≡ some v → Spells force t v
+pub write-field : (force : Bool) (t : List ℕ) (v : ℕ) → field_of force t ≡ Some v → Spells force t v
 unfolding field_of minus_of
 write-field false t v e = wrote-plain t v (some_of (written 32 t) (value 0 t) v e)
 write-field true t v e = wrote-force (written 32 t) t v refl e

@@ -4,13 +4,12 @@ use native.Mathlib.Omega.{arith}
 use native.Mathlib.Nat.{not-suc-le-zero, le_of_suc-le-suc}
 use mathlib.Core.Bool.{Bool, true, false, ◌&&◌, ◌||◌}
 use mathlib.Core.List.{List, [], ◌∷◌, ◌++◌, append_assoc}
-use mathlib.Core.Option
-use mathlib.Core.Option.{Option, some}
 use mathlib.Core.Path.{◌≡◌, refl, ap, sym, ◌∙◌}
 use lib.Dec.{leb, ltb, eqb}
 use lib.ListN.{length, take, drop, get_or, length-append}
 use lib.Seq.{drop-drop, drop_at, take_at, drop-append-add}
 use borrow.Author.Tests.{leb-true, le-leb, eqb-true, eq-eqb, ne_eqb, lt-ltb}
+use Rattle.std.specs.Prelude.{Option, Some, unwrap_or}
 use Rattle.records.specs.Notation.{pick, every_below}
 use Rattle.records.specs.Records.{Allowed, between, either, allows, never, zero_force, ranges, fields, in_range, in_cases, storey_kind, member_kind, header_values, storey_values, no_case, case_of, header_fault, storey_fault, member_fault}
 use Rattle.format.specs.Spelling.{column, spelled}
@@ -190,14 +189,14 @@ module _ (kind : Kind) (vs rest : List ℕ) where
 
 -- a line written at place `at` of a file
 module _ (kind : Kind) (s : List ℕ) (at : ℕ) (vs rest : List ℕ) (p : drop at s ≡ line_text kind vs ++ rest) (l : length vs ≡ fields kind) (r : Ranged kind vs) where
-  field_is : (j : ℕ) → j < fields kind → field_at kind s at j ≡ some (get_or vs j 0)
+  field_is : (j : ℕ) → j < fields kind → field_at kind s at j ≡ Some (get_or vs j 0)
   unfolding field_at
   field_is j h =
       let q : at + 1 + 8 * j ≡ at + (1 + 8 * j) = omega arith in
       rw (q, ← drop-drop (1 + 8 * j) at s, p, line-field kind vs rest j (omega arith)) (read-field (is_force kind j) (get_or vs j 0) (spellable kind vs r j h))
 
   value-is : (j : ℕ) → j < fields kind → value_at kind s at j ≡ get_or vs j 0
-  value-is j h = ap (λ (o : Option ℕ). Option.get_or o 0) (field_is j h)
+  value-is j h = ap (λ (o : Option ℕ). unwrap_or o 0) (field_is j h)
 
   fault-none : (j : ℕ) → j < fields kind → field_fault kind s at j ≡ 0
   unfolding field_fault

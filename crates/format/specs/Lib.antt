@@ -2,3 +2,4 @@ pub mod Spelling
 pub mod Lines
 pub mod Steps
 pub mod Text
+pub mod LineFields

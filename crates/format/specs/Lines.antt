@@ -1,11 +1,10 @@
 -- The lines of a survey file (document 01, "The survey record"): what a line is, what its fields hold, and its first refusal by itself.
 -- A line is given by the file s and the place `at` where it begins.
-use Rattle.std.specs.Prelude.{◌+◌, ◌*◌, ◌<◌, ◌&&◌, ◌||◌, ◌∷◌, ◌≡◌}
-use Rattle.records.specs.Notation.{ℕ, suc, Bool, true, false, List, [], Option, some, none, Option·getD, leb, ltb, eqb, length, get_or, take, drop, pick, every_below, first}
+use Rattle.std.specs.Prelude.{◌+◌, ◌*◌, ◌<◌, ◌&&◌, ◌||◌, ◌∷◌, ◌≡◌, Option, Some, None, unwrap_or}
+use Rattle.records.specs.Notation.{ℕ, suc, Bool, true, false, List, [], leb, ltb, eqb, length, get_or, take, drop, pick, every_below, first}
 use Rattle.records.specs.declared.{Header.Header, Storey.Storey, LoadCase.LoadCase, Member.Member, Kind.Kind, Kind.TheVariants.B, Kind.TheVariants.S, Kind.TheVariants.M, Kind.TheVariants.S4, Kind.TheVariants.M4, Kind.TheVariants.D}
 use Rattle.records.specs.Records.{Allowed, allows, never, ranges, fields, in_cases, storey_kind, member_kind, header_by, storey_by, case_by, old_cases, member_by}
 use Rattle.format.specs.Spelling.{field_of}
-use Rattle.format.specs.declared.{cursor.Field.Field, cursor.Field.TheVariants.Number, cursor.Field.TheVariants.Refused, lines.Fields.Fields}
 
 -- "its tag in column 1, a byte B, S or M"; D of a load case (document 02, N3)
 abbrev pub tag_byte : Kind → ℕ
@@ -49,16 +48,16 @@ field_at kind s at j = field_of (is_force kind j) (take 8 (drop (at + 1 + 8 * j)
 
 -- that number; 0 where there is none: past a refused field it means nothing, and the refusal comes first
 abbrev pub value_at : Kind → List ℕ → ℕ → ℕ → ℕ
-value_at kind s at j = Option·getD (field_at kind s at j) 0
+value_at kind s at j = unwrap_or (field_at kind s at j) 0
 
 abbrev pub is_written : Option ℕ → Bool
-is_written (some v) = true
-is_written none = false
+is_written (Some v) = true
+is_written None = false
 
 -- 2, a field not written as it must be; 3, a field outside its range
 abbrev pub fault_in : Option ℕ → Allowed → ℕ
-fault_in (some v) a = pick (allows a v) 0 3
-fault_in none a = 2
+fault_in (Some v) a = pick (allows a v) 0 3
+fault_in None a = 2
 
 unfoldable pub field_fault : Kind → List ℕ → ℕ → ℕ → ℕ
 field_fault kind s at j = fault_in (field_at kind s at j) (get_or (ranges kind (value_at kind s at 2)) j never)
@@ -67,19 +66,21 @@ field_fault kind s at j = fault_in (field_at kind s at j) (get_or (ranges kind (
 abbrev pub fields_fault : Kind → List ℕ → ℕ → ℕ
 fields_fault kind s at = first 0 (λ r. r) (field_fault kind s at) (fields kind)
 
--- the cursor's answer on a field, "hands back the number or refusal with the advanced cursor": 2 where the field is not written as it must be
-abbrev pub field_step : Option ℕ → ℕ → Field
-field_step (some v) next = Number v (record { at = next })
-field_step none next = Refused 2 (record { at = next })
-
 -- the bytes hold the fields of a line of this kind
 abbrev pub holds_fields : Kind → List ℕ → ℕ → Bool
 holds_fields kind s at = leb (at + 1 + 8 * fields kind) (length s)
 
--- the numbers that a line's fields hold, and whether all are written as they must be; where the bytes end before the line's fields, none is written and each is 0
-pub record FieldsOf (kind : Kind) (s : List ℕ) (at : ℕ) (r : Fields) : Type 0 where
-  pub written : r.written ≡ (holds_fields kind s at && every_below (λ j. is_written (field_at kind s at j)) (fields kind))
-  pub values : (j : ℕ) → j < fields kind → get_or r.values j 0 ≡ pick (holds_fields kind s at) (value_at kind s at j) 0
+-- the number that field j of a line holds, if the bytes hold the line's fields and it is written as it must be
+abbrev pub number_held : Kind → List ℕ → ℕ → ℕ → Option ℕ
+number_held kind s at j = pick (holds_fields kind s at && ltb j (fields kind)) (field_at kind s at j) None
+
+-- 2 where not all of a line's fields are written as they must be
+abbrev pub written_fault : Kind → List ℕ → ℕ → ℕ
+written_fault kind s at = pick (every_below (λ j. is_written (field_at kind s at j)) (fields kind)) 0 2
+
+-- vs are the numbers that a line's fields hold
+abbrev pub Holds : Kind → List ℕ → ℕ → List ℕ → Type 0
+Holds kind s at vs = (j : ℕ) → j < fields kind → get_or vs j 0 ≡ value_at kind s at j
 
 -- the records that lines hold, in a form
 unfoldable pub header_at : ℕ → List ℕ → ℕ → Header

@@ -1,7 +1,7 @@
 -- The spelling of a number in columns (document 01, "The survey record": right-justified, blanks to its left, no leading zero).
 -- A byte is its number: 32 is the blank, 45 the minus, 48 to 57 the digits, 10 the LF.
-use Rattle.std.specs.Prelude.{◌+◌, ◌-◌, ◌*◌, ◌/◌, ◌%◌, ◌&&◌, ◌∷◌}
-use Rattle.records.specs.Notation.{ℕ, zero, suc, Bool, true, false, List, [], Option, some, none, leb, ltb, eqb, get_or, pick}
+use Rattle.std.specs.Prelude.{◌+◌, ◌-◌, ◌*◌, ◌/◌, ◌%◌, ◌&&◌, ◌∷◌, Option, Some, None}
+use Rattle.records.specs.Notation.{ℕ, zero, suc, Bool, true, false, List, [], leb, ltb, eqb, get_or, pick}
 use Rattle.records.specs.Records.{zero_force}
 
 -- column j of n, counted from the right: the last holds the units; a number below ten has its sign directly before it and blanks
@@ -36,9 +36,9 @@ written sign t = eqb (get_or t 0 0) 32 && same t (spelled 8 sign (value 0 t))
 
 -- a number with a minus, counted from zero_force: "never before 0"
 unfoldable pub minus_of : List ℕ → Option ℕ
-minus_of t = pick (written 45 t && ltb 0 (value 0 t)) (some (zero_force - value 0 t)) none
+minus_of t = pick (written 45 t && ltb 0 (value 0 t)) (Some (zero_force - value 0 t)) None
 
 -- the number that a field holds, if it is written as it must be. A minus may stand only in N_D and N_K
 unfoldable pub field_of : Bool → List ℕ → Option ℕ
-field_of false t = pick (written 32 t) (some (value 0 t)) none
-field_of true t = pick (written 32 t) (some (zero_force + value 0 t)) (minus_of t)
+field_of false t = pick (written 32 t) (Some (value 0 t)) None
+field_of true t = pick (written 32 t) (Some (zero_force + value 0 t)) (minus_of t)

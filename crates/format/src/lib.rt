@@ -2,5 +2,6 @@
 #![tactic(auto)]
 
 pub mod cursor;
+mod line_fields;
 pub mod lines;
 pub mod spelling;

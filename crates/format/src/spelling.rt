@@ -1,93 +1,75 @@
 // The spelling of a number in columns.
-ghost use Rattle.std.specs.Prelude.{◌≡◌, ◌+◌, ◌<◌, ◌≤◌, length, take, drop};
-ghost use Rattle.format.specs.Spelling.{column, spelled, same, pushed, value};
+ghost use Rattle.std.specs.Prelude.{◌≡◌, ◌<◌, length, replicate};
+ghost use Rattle.format.specs.Spelling.{spelled, same, pushed, value};
 ghost use Rattle.format.specs.Steps.{continues};
 
-// Column j of n, counted from the right, with the sign that stands before its first digit.
-pub(crate) fn column_of(sign: u8, n: u64, j: usize) -> u8
-    ensures { result ≡ column sign n j }
+// The digits of a number over the last of some blank columns, its sign before them.
+fn put_digits(columns: &mut [u8], sign: u8, n: u64)
+    requires { columns.old ≡ replicate (length columns.old) 32 }
+    ensures { columns.new ≡ spelled (length columns.old) sign n }
 {
-    let mut q = n;
-    let mut k = j;
-    while 0 < k {
-        if q < 10 {
-            if k == 1 {
-                return sign;
+    let mut rest = n;
+    for i in (0..columns.len()).rev() {
+        columns[i] = b'0' + (rest % 10) as u8;
+        if rest < 10 {
+            if 0 < i {
+                columns[i - 1] = sign;
             }
-            return b' ';
+            return;
         }
-        q = q / 10;
-        k -= 1;
+        rest /= 10;
     }
-    b'0' + (q % 10) as u8
 }
 
-// The w bytes from `at` spell n.
-pub(crate) fn spells(s: &[u8], at: usize, w: usize, sign: u8, n: u64) -> bool
-    requires { at + w ≤ length s.now }
-    ensures { result ≡ same (take w (drop at s.now)) (spelled w sign n) }
+// A number in some columns: blanks, its sign directly before its digits. One wider than the columns shows its last digits.
+pub fn put_number(columns: &mut [u8], sign: u8, n: u64)
+    ensures { columns.new ≡ spelled (length columns.old) sign n }
 {
-    let mut p = at;
-    let mut left = w;
-    while 0 < left {
-        left -= 1;
-        if s[p] != column_of(sign, n, left) {
-            return false;
-        }
-        p += 1;
-    }
-    true
+    columns.fill(b' ');
+    put_digits(columns, sign, n);
 }
 
-// Column b may follow columns that make v and are blanks where v is 0; a number's first digit is no 0 unless it is its last.
-pub(crate) fn goes_on(v: u64, b: u8, last: bool) -> bool
-    ensures { result ≡ continues v b last }
+// The eight columns spell n.
+#[tactic(auto, using(crate::proofs::Columns::same_pointwise))]
+pub(crate) fn spells(columns: &[u8; 8], sign: u8, n: u64) -> bool
+    ensures { result ≡ same columns.now (spelled 8 sign n) }
 {
-    if b == b' ' {
-        if last {
-            return false;
-        }
-        return v == 0;
-    }
-    if b < b'0' {
-        return false;
-    }
-    if b'9' < b {
-        return false;
-    }
-    if last {
-        return true;
-    }
-    if 0 < v {
-        return true;
-    }
-    b'0' < b
+    let mut spelling = [0; 8];
+    put_number(&mut spelling, sign, n);
+    *columns == spelling
 }
 
-// The number v with one more column.
-pub(crate) fn push(v: u64, b: u8) -> u64
-    requires { v < 100_000_000 }
-    ensures { result ≡ pushed v b }
+// A column may follow columns that make `number` and are blanks where that is 0; a number's first digit is no 0 unless it is its last.
+pub(crate) fn goes_on(number: u64, column: u8, last: bool) -> bool
+    ensures { result ≡ continues number column last }
 {
-    if b < b'0' {
-        return v;
+    match column {
+        b' ' => !last && number == 0,
+        b'0' => last || 0 < number,
+        b'1'..=b'9' => true,
+        _ => false,
     }
-    if b'9' < b {
-        return v;
-    }
-    v * 10 + (b as u64 - 48)
 }
 
-// The number that the digits among the eight bytes from `at` make.
-pub(crate) fn digits(s: &[u8], at: usize) -> u64
-    requires { at + 8 ≤ length s.now }
-    ensures { (result ≡ value 0 (take 8 (drop at s.now))) × (result < 100_000_000) }
+// The number with one more column.
+pub(crate) fn push(number: u64, column: u8) -> u64
+    requires { number < 100_000_000 }
+    ensures { result ≡ pushed number column }
 {
-    let mut v = 0;
-    let mut i = 0;
-    while i < 8 {
-        v = push(v, s[at + i]);
-        i += 1;
+    match column {
+        b'0'..=b'9' => number * 10 + u64::from(column - b'0'),
+        _ => number,
     }
-    v
+}
+
+// The number that the digits among eight columns make.
+pub(crate) fn digits(columns: &[u8; 8]) -> u64
+    ensures value { result ≡ value 0 columns.now }
+    ensures small { result < 100_000_000 }
+{
+    let mut number = 0;
+    for column in columns {
+        number = push(number, *column);
+    }
+    number
 }

@@ -8,6 +8,7 @@ use borrow.Author.Tests.{leb-true}
 use Rattle.records.proofs.Below.{and_left, and_right}
 use Rattle.hazard.specs.Site.{Motion}
 use Rattle.hazard.specs.Refusals.{in_map, period_taken, class_listed, use_listed, call_fault, site_fault, spectrum_fault}
+use Rattle.hazard.specs.Codes.{SiteClass, Za, Zb, Zc, Zd, Ze, Zf, Usage, Dd1, Dd2, class_number, usage_number}
 use Rattle.hazard.specs.Sizes.{SizedMotion}
 
 clear : (taken listed : Bool) → call_fault taken listed ≡ 0 → (taken ≡ true) × (listed ≡ true)
@@ -18,7 +19,7 @@ clear false listed e = absurd (omega arith)
 from : (a b x : ℕ) → (leb a x && leb x b) ≡ true → (a ≤ x) × (x ≤ b)
 from a b x e = (leb-true a x (and_left _ _ e), leb-true x b (and_right (leb a x) _ e))
 
-motion-sized : (m : Motion) → in_map m ≡ true → SizedMotion m
+pub motion-sized : (m : Motion) → in_map m ≡ true → SizedMotion m
 motion-sized m e =
     let ss = from 1 999 m.ss (and_left _ _ e) in
     let s1 = from 1 999 m.s1 (and_right (leb 1 m.ss && leb m.ss 999) _ e) in
@@ -56,3 +57,21 @@ spectrum-accepted class usage dd1 dd2 t e =
       second = motion-sized dd2 (and_left _ _ later);
       period = leb-true t 99_999 (and_right (in_map dd2) _ later);
     }
+
+-- the numbers of classes and uses are listed
+pub class_known : (class : SiteClass) → class_listed (class_number class) ≡ true
+class_known Za = refl
+class_known Zb = refl
+class_known Zc = refl
+class_known Zd = refl
+class_known Ze = refl
+class_known Zf = refl
+
+pub usage_known : (usage : Usage) → use_listed (usage_number usage) ≡ true
+usage_known Dd1 = refl
+usage_known Dd2 = refl
+
+pub class_within : (class : SiteClass) → (1 ≤ class_number class) × (class_number class ≤ 6)
+class_within class = from 1 6 (class_number class) (class_known class)
+
+pub ruleset codes = (class_known, usage_known)

@@ -8,3 +8,5 @@ pub mod Told
 pub mod Falling
 pub mod Rising
 pub mod Order
+pub mod Rounding
+pub mod Sites

@@ -39,3 +39,5 @@ spectral-sized sds sd1 t s m = go (dec_le (t * sds) (200 * sd1)) (dec_le (t * sd
     go (no a) (no b) (no c) =
         rw (past-l sds sd1 t (omega arith) (omega arith))
         (record { num = omega arith; den-least = mul-pos {m = t} {n = t} (omega arith) (omega arith); den-most = mul-le-mul m m })
+
+pub ruleset lines = (to-a, to-b, to-l, past-l)

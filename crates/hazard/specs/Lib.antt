@@ -1,5 +1,6 @@
 pub mod Tables
 pub mod Refusals
+pub mod Codes
 pub mod Site
 pub mod Spectrum
 pub mod Entries

@@ -1,12 +1,12 @@
 -- The coefficients of a site (document 001, 2.7 and 3.8; document 02, N8).
-use Rattle.std.specs.Prelude.{◌+◌, ◌-◌, ◌*◌, ◌/◌, ◌%◌, ◌∷◌}
+use Rattle.std.specs.Prelude.{◌+◌, ◌-◌, ◌*◌, ◌/◌, ◌%◌, ◌∷◌, Result, Ok, Err}
 use Rattle.records.specs.Notation.{ℕ, [], get_or, ltb, eqb, pick}
 use Rattle.members.specs.Limits.{row, interp}
 use Rattle.members.specs.declared.limits.Fraction.{Fraction}
 use Rattle.hazard.specs.Tables.{Six, six, Published, short_period, one_second}
 use Rattle.members.specs.Finding.{Returned, found, refused}
 use Rattle.hazard.specs.Refusals.{site_fault}
-pub use Rattle.hazard.specs.declared.site.{Motion.Motion, Site.Site, SiteAnswer.SiteAnswer, SiteAnswer.TheVariants.Computed, SiteAnswer.TheVariants.Refused}
+pub use Rattle.hazard.specs.declared.site.{Motion.Motion, Site.Site}
 
 -- "the linear value between the published columns. Outside those ranges the end columns hold": the linear rule of every table
 unfoldable pub between : Six → Six → ℕ → Fraction
@@ -53,13 +53,13 @@ site_of class m =
 abbrev pub motion : ℕ → ℕ → Motion
 motion ss s1 = record { ss = ss; s1 = s1 }
 
-unfoldable pub site_answer : ℕ → Motion → SiteAnswer
-site_answer class m = pick (eqb (site_fault class m) 0) (Computed (site_of class m)) (Refused (site_fault class m))
+unfoldable pub site_answer : ℕ → Motion → Result Site ℕ
+site_answer class m = pick (eqb (site_fault class m) 0) (Ok (site_of class m)) (Err (site_fault class m))
 
 -- what each case of the answer says: F_S, F_1, S_DS, S_D1
-abbrev pub returned_site : SiteAnswer → Returned
-returned_site (Computed s) = found (s.fs ∷ s.f1 ∷ s.sds ∷ s.sd1 ∷ [])
-returned_site (Refused n) = refused n
+abbrev pub returned_site : Result Site ℕ → Returned
+returned_site (Ok s) = found (s.fs ∷ s.f1 ∷ s.sds ∷ s.sd1 ∷ [])
+returned_site (Err n) = refused n
 
 abbrev pub site_returned : ℕ → ℕ → ℕ → Returned
 site_returned class ss s1 = returned_site (site_answer class (motion ss s1))

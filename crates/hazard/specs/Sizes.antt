@@ -3,7 +3,7 @@ use Rattle.std.specs.Prelude.{◌≤◌}
 use Rattle.records.specs.Notation.{ℕ}
 use Rattle.members.specs.declared.limits.Fraction.{Fraction}
 use Rattle.hazard.specs.Site.{Motion, Site}
-use Rattle.hazard.specs.Spectrum.{Level}
+use Rattle.hazard.specs.declared.spectrum.Level.{Level}
 
 pub record SizedMotion (m : Motion) : Type 0 where
   pub ss-least : 1 ≤ m.ss

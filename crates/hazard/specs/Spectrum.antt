@@ -1,12 +1,12 @@
 -- The spectrum (document 001, 2.8, 2.9 and table 2.1; document 02, N8), an exact fraction of hundred-thousandths until the one rounding. Periods are in milliseconds.
-use Rattle.std.specs.Prelude.{◌+◌, ◌*◌, ◌∷◌}
+use Rattle.std.specs.Prelude.{◌+◌, ◌*◌, ◌∷◌, Result, Ok, Err}
 use Rattle.records.specs.Notation.{ℕ, Bool, [], leb, ltb, eqb, pick}
 use Rattle.members.specs.Units.{ceiling}
 use Rattle.members.specs.declared.limits.Fraction.{Fraction}
 use Rattle.members.specs.Finding.{Returned, found, refused}
 use Rattle.hazard.specs.Refusals.{spectrum_fault}
 use Rattle.hazard.specs.Site.{Motion, Site, site_of}
-pub use Rattle.hazard.specs.declared.spectrum.{Level.Level, SpectrumAnswer.SpectrumAnswer, SpectrumAnswer.TheVariants.Computed, SpectrumAnswer.TheVariants.Refused}
+pub use Rattle.hazard.specs.declared.spectrum.Level.{Level}
 
 -- equation 2.4, T_A = 0.2 S_D1 / S_DS and T_B = S_D1 / S_DS: T ≤ T_A and T ≤ T_B, by multiplication
 abbrev pub up_to_ta : ℕ → ℕ → ℕ → Bool
@@ -56,14 +56,14 @@ spectrum_at l t = ceiling ((spectral l.sds l.sd1 t).num * l.tenths) ((spectral l
 abbrev pub spectrum_of : ℕ → ℕ → Motion → Motion → ℕ → ℕ
 spectrum_of class usage dd1 dd2 t = spectrum_at (level_of usage (site_of class dd1) (site_of class dd2)) t
 
-unfoldable pub spectrum_answer : ℕ → ℕ → Motion → Motion → ℕ → SpectrumAnswer
+unfoldable pub spectrum_answer : ℕ → ℕ → Motion → Motion → ℕ → Result ℕ ℕ
 spectrum_answer class usage dd1 dd2 t =
-    pick (eqb (spectrum_fault class usage dd1 dd2 t) 0) (Computed (spectrum_of class usage dd1 dd2 t)) (Refused (spectrum_fault class usage dd1 dd2 t))
+    pick (eqb (spectrum_fault class usage dd1 dd2 t) 0) (Ok (spectrum_of class usage dd1 dd2 t)) (Err (spectrum_fault class usage dd1 dd2 t))
 
 -- what each case of the answer says
-abbrev pub returned_spectrum : SpectrumAnswer → Returned
-returned_spectrum (Computed s) = found (s ∷ [])
-returned_spectrum (Refused n) = refused n
+abbrev pub returned_spectrum : Result ℕ ℕ → Returned
+returned_spectrum (Ok s) = found (s ∷ [])
+returned_spectrum (Err n) = refused n
 
 abbrev pub spectrum_returned : ℕ → ℕ → Motion → Motion → ℕ → Returned
 spectrum_returned class usage dd1 dd2 t = returned_spectrum (spectrum_answer class usage dd1 dd2 t)

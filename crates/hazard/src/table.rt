@@ -1,6 +1,8 @@
 // The site coefficients F_S and F_1 (document 02, N8), in thousandths: class by class from ZA to ZE, at each hundredth of S_S from 0.25 to 1.50, then likewise of S_1 from 0.10 to 0.60.
-ghost use Rattle.std.specs.Prelude.{◌≡◌, ◌<◌};
+ghost use Rattle.std.specs.Prelude.{◌≡◌, ◌+◌, ◌-◌, ◌*◌, ◌≤◌, ◌<◌, max, min};
 ghost use Rattle.hazard.specs.Entries.{Entry};
+
+use crate::site::SiteClass;
 
 const FACTORS: [u16; 885] = [
     // F_S of ZA, from 0.25
@@ -71,16 +73,57 @@ const FACTORS: [u16; 885] = [
     2040, 2020, 2000,
 ];
 
-fn wide(x: u16) -> u64
-    ensures { result ≡ x }
-{
-    x as u64
-}
-
 // Number k of them, counted from 0.
-pub(crate) fn entry(k: usize) -> u64
+fn entry(k: usize) -> u64
     requires { k < 885 }
     ensures { Entry k result }
 {
-    wide(FACTORS[k])
+    u64::from(FACTORS[k])
+}
+
+// The columns of a coefficient, the first and the last in hundredths, and the place of its first number; those of a class stand one after another.
+pub(crate) struct Columns {
+    first: u64,
+    last: u64,
+    start: u64,
+    ghost rising: { first ≤ last },
+    ghost held: { start + 5 * (last - first + 1) ≤ 885 },
+}
+
+pub(crate) const SHORT_PERIOD: Columns = Columns {
+    first: 25,
+    last: 150,
+    start: 0,
+};
+
+pub(crate) const ONE_SECOND: Columns = Columns {
+    first: 10,
+    last: 60,
+    start: 630,
+};
+
+impl Columns {
+    ghost use Rattle.hazard.specs.Codes.{class_number};
+    ghost use Rattle.hazard.specs.Site.{entry_of, row_of};
+
+    // How many numbers a class has.
+    fn count(&self) -> u64
+        ensures { result ≡ self.now.last - self.now.first + 1 }
+    {
+        self.last - self.first + 1
+    }
+
+    // How far x stands past the first column; at most as far as the last one.
+    fn past_first(&self, x: u64) -> u64
+        ensures { result ≡ min self.now.last (max self.now.first x) - self.now.first }
+    {
+        x.clamp(self.first, self.last) - self.first
+    }
+
+    // The coefficient of a class at x.
+    pub fn factor(&self, class: SiteClass, x: u64) -> u64
+        ensures { result ≡ entry_of (self.now.start + row_of (class_number class) * (self.now.last - self.now.first + 1) + (min self.now.last (max self.now.first x) - self.now.first)) }
+    {
+        entry((self.start + class.row() * self.count() + self.past_first(x)) as usize)
+    }
 }

@@ -7,7 +7,7 @@ use mathlib.Core.List.{List, [], ◌∷◌}
 use mathlib.Core.Path.{◌≡◌}
 use Rattle.members.specs.declared.limits.Row.{Row}
 use Rattle.members.specs.declared.limits.Fraction.{Fraction}
-use Rattle.members.specs.declared.tables.Two.{Two}
+use Rattle.std.proofs.Common.{slice_index}
 use Rattle.members.specs.Limits.{interp, row_limit, segment, clamp, blend}
 use Rattle.members.proofs.Fractions.{◌⊑◌, ⊑_refl, ⊑_trans}
 use Rattle.members.proofs.Interpolation.{up_to, inside, past, alone}
@@ -134,43 +134,43 @@ padded p q ps h e x = go (dec_le x p.at) (dec_le x q.at)
     go (no a) (no b) = rw (past p q ps x (omega arith) (omega arith)) (⊑_refl (interp q ps x))
 
 -- a blend keeps the order of its two values, and falls or rises between them as they do
-pub blend-values : (at y z : Two) (x : ℕ) → y.r1 ≤ z.r1 → y.r2 ≤ z.r2 → blend at y x ≤ blend at z x
+pub blend-values : (at y z : List ℕ) (x : ℕ) → slice_index y 0 ≤ slice_index z 0 → slice_index y 1 ≤ slice_index z 1 → blend at y x ≤ blend at z x
 unfolding blend
 blend-values at y z x h k =
-    omega (arith, mul-le-mul_right (at.r2 - clamp at x) h, mul-le-mul_right (clamp at x - at.r1) k)
+    omega (arith, mul-le-mul_right (slice_index at 1 - clamp at x) h, mul-le-mul_right (clamp at x - slice_index at 0) k)
 
 -- the distance from a to c, by way of b
 by_way : (a b c : ℕ) → a ≤ b → b ≤ c → c - a ≡ (c - b) + (b - a)
 by_way a b c h k = omega arith
 
-clamp-rises : (at : Two) (x x' : ℕ) → x ≤ x' → clamp at x ≤ clamp at x'
+clamp-rises : (at : List ℕ) (x x' : ℕ) → x ≤ x' → clamp at x ≤ clamp at x'
 clamp-rises at x x' l = omega arith
 
-module _ (at y : Two) (x x' : ℕ) (r : at.r1 < at.r2) (l : x ≤ x') where
-  to_end : at.r2 - clamp at x ≡ (at.r2 - clamp at x') + (clamp at x' - clamp at x)
-  to_end = by_way (clamp at x) (clamp at x') at.r2 (clamp-rises at x x' l) (omega arith)
+module _ (at y : List ℕ) (x x' : ℕ) (r : slice_index at 0 < slice_index at 1) (l : x ≤ x') where
+  to_end : slice_index at 1 - clamp at x ≡ (slice_index at 1 - clamp at x') + (clamp at x' - clamp at x)
+  to_end = by_way (clamp at x) (clamp at x') (slice_index at 1) (clamp-rises at x x' l) (omega arith)
 
-  from_start : clamp at x' - at.r1 ≡ (clamp at x' - clamp at x) + (clamp at x - at.r1)
-  from_start = by_way at.r1 (clamp at x) (clamp at x') (omega arith) (clamp-rises at x x' l)
+  from_start : clamp at x' - slice_index at 0 ≡ (clamp at x' - clamp at x) + (clamp at x - slice_index at 0)
+  from_start = by_way (slice_index at 0) (clamp at x) (clamp at x') (omega arith) (clamp-rises at x x' l)
 
-  pub blend-falls : y.r2 ≤ y.r1 → blend at y x' ≤ blend at y x
+  pub blend-falls : slice_index y 1 ≤ slice_index y 0 → blend at y x' ≤ blend at y x
   unfolding blend
   blend-falls h = rw (to_end, from_start) (omega (arith, mul-le-mul_right (clamp at x' - clamp at x) h))
 
-  pub blend-rises : y.r1 ≤ y.r2 → blend at y x ≤ blend at y x'
+  pub blend-rises : slice_index y 0 ≤ slice_index y 1 → blend at y x ≤ blend at y x'
   unfolding blend
   blend-rises h = rw (to_end, from_start) (omega (arith, mul-le-mul_right (clamp at x' - clamp at x) h))
 
 -- a blend is within the gap's multiple of its greater value, and reaches that of its lesser
-module _ (at y : Two) (x : ℕ) (r : at.r1 < at.r2) (h : y.r1 ≤ y.r2) where
-  pub blend-least : (at.r2 - at.r1) * y.r1 ≤ blend at y x
+module _ (at y : List ℕ) (x : ℕ) (r : slice_index at 0 < slice_index at 1) (h : slice_index y 0 ≤ slice_index y 1) where
+  pub blend-least : (slice_index at 1 - slice_index at 0) * slice_index y 0 ≤ blend at y x
   unfolding blend
   blend-least =
-      let e : at.r2 - at.r1 ≡ (at.r2 - clamp at x) + (clamp at x - at.r1) = omega arith in
-      rw e (omega (arith, mul-le-mul_right (clamp at x - at.r1) h))
+      let e : slice_index at 1 - slice_index at 0 ≡ (slice_index at 1 - clamp at x) + (clamp at x - slice_index at 0) = omega arith in
+      rw e (omega (arith, mul-le-mul_right (clamp at x - slice_index at 0) h))
 
-  pub blend-most : blend at y x ≤ (at.r2 - at.r1) * y.r2
+  pub blend-most : blend at y x ≤ (slice_index at 1 - slice_index at 0) * slice_index y 1
   unfolding blend
   blend-most =
-      let e : at.r2 - at.r1 ≡ (at.r2 - clamp at x) + (clamp at x - at.r1) = omega arith in
-      rw e (omega (arith, mul-le-mul_right (at.r2 - clamp at x) h))
+      let e : slice_index at 1 - slice_index at 0 ≡ (slice_index at 1 - clamp at x) + (clamp at x - slice_index at 0) = omega arith in
+      rw e (omega (arith, mul-le-mul_right (slice_index at 1 - clamp at x) h))

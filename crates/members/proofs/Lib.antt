@@ -1,5 +1,5 @@
 pub mod Arithmetic
-pub mod Assembly
+pub mod Published
 pub mod Falling
 pub mod Fractions
 pub mod Interpolation
@@ -8,3 +8,4 @@ pub mod Order
 pub mod Rounding
 pub mod Worse
 pub mod Returned
+pub mod Cases

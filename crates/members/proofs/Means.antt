@@ -1,6 +1,6 @@
 -- A value between rows is a mean of their limits: it is within what bounds them, whatever the table. So no product of the code wraps.
 use Prim.Native.Nat.{ℕ, ◌+◌, ◌-◌, ◌*◌, ◌≤◌, ◌<◌}
-use native.Mathlib.Nat.{le_trans, mul-le-mul_right, mul-pos}
+use native.Mathlib.Nat.{mul-le-mul_right, mul-pos}
 use native.Mathlib.Decide.{dec_le}
 use native.Mathlib.Omega.{arith}
 use mathlib.Core.List.{List, [], ◌∷◌}
@@ -12,12 +12,12 @@ use Rattle.members.specs.declared.class.Class.{Class}
 use Rattle.members.specs.declared.class.Class.TheVariants.{ColumnA, ColumnB, ColumnC, WallA, WallB}
 use Rattle.members.specs.declared.limits.Row.{Row}
 use Rattle.members.specs.declared.limits.Fraction.{Fraction}
-use Rattle.members.specs.declared.tables.Two.{Two}
+use Rattle.std.proofs.Common.{slice_index}
 use Rattle.members.specs.declared.tables.Places.{Places}
 use Rattle.members.specs.declared.tables.Table.{Table}
-use Rattle.members.specs.Tables.{Four, two}
+use Rattle.members.specs.Tables.{two}
 use Rattle.members.specs.Limits.{interp, row_limit, segment, blend, gap, clamp, per, column_a, column_b, column_c, wall_rows, wall_b, exact, quarters}
-use Rattle.members.specs.Sizes.{Places2, Most2, Most4, SizedPlaces, SizedTable, Mean}
+use Rattle.members.specs.Sizes.{Places2, Most2, SizedPlaces, SizedTable, Mean}
 use Rattle.members.proofs.Arithmetic.{product}
 use Rattle.members.proofs.Interpolation.{up_to, inside, past, alone}
 
@@ -57,38 +57,17 @@ interp-within {most} {p} (step {q = q} {ps = ps} h a b r) x = go (dec_le x p.at)
     go (no c) (yes d) i = rw (inside p q ps x (omega arith) d) (segment-within p q x h (first-limit r) (omega arith) d b)
     go (no c) (no d) i = rw (past p q ps x (omega arith) (omega arith)) i
 
-blend-within : {most : ℕ} (at y : Two) (x : ℕ) → Places2 at → Most2 most y → blend at y x ≤ most * gap at
+blend-within : {most : ℕ} (at y : List ℕ) (x : ℕ) → Places2 at → Most2 most y → blend at y x ≤ most * gap at
 unfolding blend
 blend-within {most} at y x a m =
-    let e : gap at ≡ (at.r2 - clamp at x) + (clamp at x - at.r1) = omega (arith, a.first) in
-    rw e (omega (arith, mul-le-mul_right (at.r2 - clamp at x) m.r1, mul-le-mul_right (clamp at x - at.r1) m.r2))
-
--- limits of at most so much are of at most more
-raised2 : {most more : ℕ} {t : Two} → most ≤ more → Most2 most t → Most2 more t
-raised2 h m = record { r1 = le_trans m.r1 h; r2 = le_trans m.r2 h }
-
-raised4 : {most more : ℕ} {f : Four} → most ≤ more → Most4 most f → Most4 more f
-raised4 h m = record { r1 = le_trans m.r1 h; r2 = le_trans m.r2 h; r3 = le_trans m.r3 h; r4 = le_trans m.r4 h }
-
-pub raised : {most more : ℕ} {t : Table} → most ≤ more → SizedTable most t → SizedTable more t
-raised h s =
-    record {
-      a = raised4 h s.a;
-      b1 = raised4 h s.b1;
-      b2 = raised4 h s.b2;
-      c = raised2 h s.c;
-      zone1 = raised2 h s.zone1;
-      zone2 = raised2 h s.zone2;
-      plain1 = raised2 h s.plain1;
-      plain2 = raised2 h s.plain2;
-      wall = raised2 h s.wall;
-    }
+    let e : gap at ≡ (slice_index at 1 - clamp at x) + (clamp at x - slice_index at 0) = omega (arith, a.first) in
+    rw e (omega (arith, mul-le-mul_right (slice_index at 1 - clamp at x) m.r1, mul-le-mul_right (clamp at x - slice_index at 0) m.r2))
 
 -- one direction, and two
 one_way : {most : ℕ} {f : Fraction} → Within most f → Mean most f
 one_way w = record { positive = w.positive; den = omega (arith, w.den); mean = w.mean }
 
-two-way : {most : ℕ} (at : Two) {f : Fraction} → Places2 at → Within (most * gap at) f → Mean most (per (gap at) f)
+two-way : {most : ℕ} (at : List ℕ) {f : Fraction} → Places2 at → Within (most * gap at) f → Mean most (per (gap at) f)
 two-way {most} at {f} a w =
     record {
       positive = mul-pos w.positive (omega (arith, a.first));
@@ -125,7 +104,7 @@ module _ {most : ℕ} (p : Places) (t : Table) (sp : SizedPlaces p) (st : SizedT
   unfolding column_c
   column-c n = one_way (interp-within (step st.c.r1 sp.axial.third sp.axial.most (end st.c.r2)) n)
 
-  wall-rows : (y1 y2 : Two) → Most2 most y1 → Most2 most y2 → (n v : ℕ) → Mean most (wall_rows p y1 y2 n v)
+  wall-rows : (y1 y2 : List ℕ) → Most2 most y1 → Most2 most y2 → (n v : ℕ) → Mean most (wall_rows p y1 y2 n v)
   unfolding wall_rows
   wall-rows y1 y2 h k n v =
       two-way p.stress sp.stress
@@ -153,9 +132,9 @@ cut : (b : Bool) → pick b 3 4 ≤ 4
 cut true = omega arith
 cut false = omega arith
 
-pub quarters-most : (class : Class) (strengthened : ℕ) → quarters class strengthened ≤ 4
-quarters-most ColumnA s = cut (eqb s 1)
-quarters-most ColumnB s = cut (eqb s 1)
-quarters-most ColumnC s = omega arith
-quarters-most WallA s = omega arith
-quarters-most WallB s = omega arith
+pub quarters_most : (class : Class) (strengthened : ℕ) → quarters class strengthened ≤ 4
+quarters_most ColumnA s = cut (eqb s 1)
+quarters_most ColumnB s = cut (eqb s 1)
+quarters_most ColumnC s = omega arith
+quarters_most WallA s = omega arith
+quarters_most WallB s = omega arith

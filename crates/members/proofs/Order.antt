@@ -13,8 +13,7 @@ use Rattle.records.specs.Notation.{pick}
 use Rattle.members.specs.declared.class.Class.{Class}
 use Rattle.members.specs.declared.class.Class.TheVariants.{ColumnA, ColumnB, ColumnC, WallA, WallB}
 use Rattle.members.specs.declared.limits.Fraction.{Fraction}
-use Rattle.members.specs.declared.tables.Four.{Four}
-use Rattle.members.specs.declared.tables.Two.{Two}
+use Rattle.std.proofs.Common.{slice_index}
 use Rattle.members.specs.declared.tables.Places.{Places}
 use Rattle.members.specs.declared.tables.Table.{Table}
 use Rattle.members.specs.declared.tables.LimitSet.{LimitSet}
@@ -38,12 +37,12 @@ one (b ∷ bs) e (suc i) = one bs (and_right b (all_hold bs) e) i
 
 -- the conditions as facts
 pub record Rising (p : Places) : Type 0 where
-  pub axial1 : p.axial.r1 < p.axial.r2
-  pub axial2 : p.axial.r2 < p.axial.r3
-  pub axial3 : p.axial.r3 < p.axial.r4
-  pub hoops : p.hoops.r1 < p.hoops.r2
-  pub walls : p.walls.r1 < p.walls.r2
-  pub stress : p.stress.r1 < p.stress.r2
+  pub axial1 : slice_index p.axial 0 < slice_index p.axial 1
+  pub axial2 : slice_index p.axial 1 < slice_index p.axial 2
+  pub axial3 : slice_index p.axial 2 < slice_index p.axial 3
+  pub hoops : slice_index p.hoops 0 < slice_index p.hoops 1
+  pub walls : slice_index p.walls 0 < slice_index p.walls 1
+  pub stress : slice_index p.stress 0 < slice_index p.stress 1
 
 pub rising-facts : (p : Places) → places_rise p ≡ true → Rising p
 unfolding places_rise
@@ -57,36 +56,36 @@ rising-facts p e =
       stress = ltb-true _ _ (one _ e 5);
     }
 
-pub record Falls4 (f : Four) : Type 0 where
-  pub first : f.r2 ≤ f.r1
-  pub second : f.r3 ≤ f.r2
-  pub third : f.r4 ≤ f.r3
+pub record Falls4 (f : List ℕ) : Type 0 where
+  pub first : slice_index f 1 ≤ slice_index f 0
+  pub second : slice_index f 2 ≤ slice_index f 1
+  pub third : slice_index f 3 ≤ slice_index f 2
 
-pub record Under4 (f g : Four) : Type 0 where
-  pub r1 : f.r1 ≤ g.r1
-  pub r2 : f.r2 ≤ g.r2
-  pub r3 : f.r3 ≤ g.r3
-  pub r4 : f.r4 ≤ g.r4
+pub record Under4 (f g : List ℕ) : Type 0 where
+  pub r1 : slice_index f 0 ≤ slice_index g 0
+  pub r2 : slice_index f 1 ≤ slice_index g 1
+  pub r3 : slice_index f 2 ≤ slice_index g 2
+  pub r4 : slice_index f 3 ≤ slice_index g 3
 
 -- two rows of two limits: over stress, and over axial load
-pub record Falls22 (y1 y2 : Two) : Type 0 where
-  pub first : y1.r2 ≤ y1.r1
-  pub second : y2.r2 ≤ y2.r1
-  pub low : y2.r1 ≤ y1.r1
-  pub high : y2.r2 ≤ y1.r2
+pub record Falls22 (y1 y2 : List ℕ) : Type 0 where
+  pub first : slice_index y1 1 ≤ slice_index y1 0
+  pub second : slice_index y2 1 ≤ slice_index y2 0
+  pub low : slice_index y2 0 ≤ slice_index y1 0
+  pub high : slice_index y2 1 ≤ slice_index y1 1
 
 pub record Ordered (t : Table) : Type 0 where
   pub a : Falls4 t.a
   pub b1 : Falls4 t.b1
   pub b2 : Falls4 t.b2
-  pub c : t.c.r2 ≤ t.c.r1
+  pub c : slice_index t.c 1 ≤ slice_index t.c 0
   pub hoops : Under4 t.b1 t.b2
   pub b-a : Under4 t.b2 t.a
-  pub c-b3 : t.c.r1 ≤ t.b1.r3
-  pub c-b4 : t.c.r2 ≤ t.b1.r4
+  pub c-b3 : slice_index t.c 0 ≤ slice_index t.b1 2
+  pub c-b4 : slice_index t.c 1 ≤ slice_index t.b1 3
   pub zone : Falls22 t.zone1 t.zone2
   pub plain : Falls22 t.plain1 t.plain2
-  pub wall : t.wall.r2 ≤ t.wall.r1
+  pub wall : slice_index t.wall 1 ≤ slice_index t.wall 0
 
 pub ordered-facts : (t : Table) → ordered t ≡ true → Ordered t
 unfolding ordered
@@ -138,7 +137,7 @@ plainly t = record { cross = omega (arith, t.cross) }
 
 module _ (p : Places) (t : Table) (pl : Rising p) (o : Ordered t) where
   -- column A
-  a-rows : Falling (row p.axial.r1 t.a.r1) (row p.axial.r2 t.a.r2 ∷ row p.axial.r3 t.a.r3 ∷ row p.axial.r4 t.a.r4 ∷ [])
+  a-rows : Falling (row (slice_index p.axial 0) (slice_index t.a 0)) (row (slice_index p.axial 1) (slice_index t.a 1) ∷ row (slice_index p.axial 2) (slice_index t.a 2) ∷ row (slice_index p.axial 3) (slice_index t.a 3) ∷ [])
   a-rows = step pl.axial1 o.a.first (step pl.axial2 o.a.second (step pl.axial3 o.a.third end))
 
   a-falls : (n n' : ℕ) → n ≤ n' → column_a p t n' ⊑ column_a p t n
@@ -150,11 +149,11 @@ module _ (p : Places) (t : Table) (pl : Rising p) (o : Ordered t) where
   a-positive n = positive a-rows n
 
   -- column B
-  b-rows : (ρ : ℕ) → Falling (row p.axial.r1 (blend p.hoops (two t.b1.r1 t.b2.r1) ρ)) (row p.axial.r2 (blend p.hoops (two t.b1.r2 t.b2.r2) ρ) ∷ row p.axial.r3 (blend p.hoops (two t.b1.r3 t.b2.r3) ρ) ∷ row p.axial.r4 (blend p.hoops (two t.b1.r4 t.b2.r4) ρ) ∷ [])
+  b-rows : (ρ : ℕ) → Falling (row (slice_index p.axial 0) (blend p.hoops (two (slice_index t.b1 0) (slice_index t.b2 0)) ρ)) (row (slice_index p.axial 1) (blend p.hoops (two (slice_index t.b1 1) (slice_index t.b2 1)) ρ) ∷ row (slice_index p.axial 2) (blend p.hoops (two (slice_index t.b1 2) (slice_index t.b2 2)) ρ) ∷ row (slice_index p.axial 3) (blend p.hoops (two (slice_index t.b1 3) (slice_index t.b2 3)) ρ) ∷ [])
   b-rows ρ =
-      step pl.axial1 (blend-values p.hoops (two t.b1.r2 t.b2.r2) (two t.b1.r1 t.b2.r1) ρ o.b1.first o.b2.first)
-      (step pl.axial2 (blend-values p.hoops (two t.b1.r3 t.b2.r3) (two t.b1.r2 t.b2.r2) ρ o.b1.second o.b2.second)
-      (step pl.axial3 (blend-values p.hoops (two t.b1.r4 t.b2.r4) (two t.b1.r3 t.b2.r3) ρ o.b1.third o.b2.third) end))
+      step pl.axial1 (blend-values p.hoops (two (slice_index t.b1 1) (slice_index t.b2 1)) (two (slice_index t.b1 0) (slice_index t.b2 0)) ρ o.b1.first o.b2.first)
+      (step pl.axial2 (blend-values p.hoops (two (slice_index t.b1 2) (slice_index t.b2 2)) (two (slice_index t.b1 1) (slice_index t.b2 1)) ρ o.b1.second o.b2.second)
+      (step pl.axial3 (blend-values p.hoops (two (slice_index t.b1 3) (slice_index t.b2 3)) (two (slice_index t.b1 2) (slice_index t.b2 2)) ρ o.b1.third o.b2.third) end))
 
   b-falls : (n n' ρ : ℕ) → n ≤ n' → column_b p t n' ρ ⊑ column_b p t n ρ
   unfolding column_b
@@ -195,7 +194,7 @@ module _ (p : Places) (t : Table) (pl : Rising p) (o : Ordered t) where
       of i = record { cross = omega (arith, i.cross) }
 
   -- column C
-  c-rows : Falling (row p.axial.r3 t.c.r1) (row p.axial.r4 t.c.r2 ∷ [])
+  c-rows : Falling (row (slice_index p.axial 2) (slice_index t.c 0)) (row (slice_index p.axial 3) (slice_index t.c 1) ∷ [])
   c-rows = step pl.axial3 o.c end
 
   c-falls : (n n' : ℕ) → n ≤ n' → column_c p t n' ⊑ column_c p t n
@@ -210,10 +209,10 @@ module _ (p : Places) (t : Table) (pl : Rising p) (o : Ordered t) where
   pub c-b : (n ρ : ℕ) → column_c p t n ⊑ column_b p t n ρ
   unfolding column_c column_b
   c-b n ρ =
-      let r1 = row p.axial.r1 t.c.r1 in
-      let r2 = row p.axial.r2 t.c.r1 in
-      let r3 = row p.axial.r3 t.c.r1 in
-      let r4 = row p.axial.r4 t.c.r2 in
+      let r1 = row (slice_index p.axial 0) (slice_index t.c 0) in
+      let r2 = row (slice_index p.axial 1) (slice_index t.c 0) in
+      let r3 = row (slice_index p.axial 2) (slice_index t.c 0) in
+      let r4 = row (slice_index p.axial 3) (slice_index t.c 1) in
       let f2 : Falling r2 (r3 ∷ r4 ∷ []) = step {p = r2} {q = r3} pl.axial2 (omega arith) c-rows in
       let f1 : Falling r1 (r2 ∷ r3 ∷ r4 ∷ []) = step {p = r1} {q = r2} pl.axial1 (omega arith) f2 in
       ⊑_trans (interp r3 (r4 ∷ []) n) (interp r2 (r3 ∷ r4 ∷ []) n) _ (positive f2 n) (padded r2 r3 (r4 ∷ []) pl.axial2 refl n)
@@ -236,20 +235,20 @@ module _ (p : Places) (t : Table) (pl : Rising p) (o : Ordered t) where
       of i = record { cross = omega (arith, i.cross) }
 
   -- walls
-  wall-rows : (y1 y2 : Two) (v : ℕ) → Falls22 y1 y2 → Falling (row p.walls.r1 (blend p.stress y1 v)) (row p.walls.r2 (blend p.stress y2 v) ∷ [])
+  wall-rows : (y1 y2 : List ℕ) (v : ℕ) → Falls22 y1 y2 → Falling (row (slice_index p.walls 0) (blend p.stress y1 v)) (row (slice_index p.walls 1) (blend p.stress y2 v) ∷ [])
   wall-rows y1 y2 v f = step pl.walls (blend-values p.stress y2 y1 v f.low f.high) end
 
-  rows-fall : (y1 y2 : Two) → Falls22 y1 y2 → (n n' v v' : ℕ) → n ≤ n' → v ≤ v' → wall_rows p y1 y2 n' v' ⊑ wall_rows p y1 y2 n v
+  rows-fall : (y1 y2 : List ℕ) → Falls22 y1 y2 → (n n' v v' : ℕ) → n ≤ n' → v ≤ v' → wall_rows p y1 y2 n' v' ⊑ wall_rows p y1 y2 n v
   unfolding wall_rows
   rows-fall y1 y2 f n n' v v' l k =
       per-mono (gap p.stress)
       (⊑_trans _ _ _ (positive (wall-rows y1 y2 v' f) n) (falls (wall-rows y1 y2 v' f) n n' l)
       (plainly (under 1 1 (more (at y1 f.first) (at y2 f.second) (last (at y2 f.second))) n)))
     where
-      at : {place : ℕ} (y : Two) → y.r2 ≤ y.r1 → Below 1 1 (row place (blend p.stress y v')) (row place (blend p.stress y v))
+      at : {place : ℕ} (y : List ℕ) → slice_index y 1 ≤ slice_index y 0 → Below 1 1 (row place (blend p.stress y v')) (row place (blend p.stress y v))
       at {place} y h = same_place (blend-falls p.stress y v v' pl.stress k h)
 
-  rows-positive : (y1 y2 : Two) → Falls22 y1 y2 → (n v : ℕ) → 0 < (wall_rows p y1 y2 n v).den
+  rows-positive : (y1 y2 : List ℕ) → Falls22 y1 y2 → (n v : ℕ) → 0 < (wall_rows p y1 y2 n v).den
   unfolding wall_rows
   rows-positive y1 y2 f n v = mul-pos (positive (wall-rows y1 y2 v f) n) (omega (arith, pl.stress))
 
@@ -261,7 +260,7 @@ module _ (p : Places) (t : Table) (pl : Rising p) (o : Ordered t) where
   wall-a-positive true n v = rows-positive t.zone1 t.zone2 o.zone n v
   wall-a-positive false n v = rows-positive t.plain1 t.plain2 o.plain n v
 
-  wall-b-rows : Falling (row p.stress.r1 t.wall.r1) (row p.stress.r2 t.wall.r2 ∷ [])
+  wall-b-rows : Falling (row (slice_index p.stress 0) (slice_index t.wall 0)) (row (slice_index p.stress 1) (slice_index t.wall 1) ∷ [])
   wall-b-rows = step pl.stress o.wall end
 
   wall-b-falls : (v v' : ℕ) → v ≤ v' → wall_b p t v' ⊑ wall_b p t v

@@ -9,8 +9,7 @@ use Rattle.records.specs.Notation.{pick}
 use Rattle.members.specs.declared.class.Class.{Class}
 use Rattle.members.specs.declared.class.Class.TheVariants.{ColumnA, ColumnB, ColumnC, WallA, WallB}
 use Rattle.members.specs.declared.finding.Finding.{Finding}
-use Rattle.members.specs.declared.finding.CaseAnswer.{CaseAnswer}
-use Rattle.members.specs.declared.finding.CaseAnswer.TheVariants.{Judged, Refused}
+use Rattle.std.specs.Prelude.{Result, Ok, Err}
 use Rattle.members.proofs.Rounding.{ratio, microradians}
 use Rattle.members.specs.Class.{code}
 use Rattle.members.specs.Finding.{Returned, flag, finding_values, returned_case}
@@ -47,13 +46,13 @@ finding-of vs =
 finding-told : (f : Finding) → finding-of (finding_values f) ≡ f
 finding-told f = rw (class-told f.class, flag-told f.over, flag-told f.m_dropped, flag-told f.over_m, flag-told f.over_rotation)
 
-abbrev answer-by : ℕ → List ℕ → CaseAnswer
-answer-by n [] = Refused n
-answer-by n (v ∷ vs) = Judged (finding-of (v ∷ vs))
+abbrev answer-by : ℕ → List ℕ → Result Finding ℕ
+answer-by n [] = Err n
+answer-by n (v ∷ vs) = Ok (finding-of (v ∷ vs))
 
-answer-told : (a : CaseAnswer) → answer-by (returned_case a).refusal (returned_case a).values ≡ a
-answer-told (Judged f) = ap Judged (finding-told f)
-answer-told (Refused n) = refl
+answer-told : (a : Result Finding ℕ) → answer-by (returned_case a).refusal (returned_case a).values ≡ a
+answer-told (Ok f) = ap Ok (finding-told f)
+answer-told (Err n) = refl
 
-pub case-answer-is : (a b : CaseAnswer) → returned_case a ≡ returned_case b → a ≡ b
+pub case-answer-is : (a b : Result Finding ℕ) → returned_case a ≡ returned_case b → a ≡ b
 case-answer-is a b e = sym (answer-told a) ∙ ap (λ (r : Returned). answer-by r.refusal r.values) e ∙ answer-told b

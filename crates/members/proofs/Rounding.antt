@@ -3,7 +3,9 @@ use Prim.Native.Nat.{ℕ, ◌+◌, ◌-◌, ◌*◌, ◌/◌, ◌≤◌, ◌<◌
 use native.Mathlib.Omega.{arith}
 use native.Mathlib.Nat.{div-lt_iff_lt-mul, lt-div-mul-add, mul-le-mul_left, mul-le-mul_right, mul-pos, le-div_iff_mul-le, div-mul-le_self}
 use Rattle.members.specs.Units.{Ratio, HoopRatio, Microradians, ceiling, ratio_cap, ratio_up, hoop_down, micro_steps}
-use Rattle.members.specs.Sizes.{micro_cap, micro_down}
+use Rattle.members.specs.Sizes.{micro_cap, micro_down, Mean}
+use Rattle.members.specs.declared.limits.Fraction.{Fraction}
+use Rattle.members.proofs.Arithmetic.{product}
 use mathlib.Core.Path.{◌≡◌, ap}
 use Rattle.members.specs.Finding.{axial, moment, stress, hoops, compression}
 
@@ -53,8 +55,15 @@ below-cap a b h k =
     let r : a / b < micro_cap + 1 = (div-lt_iff_lt-mul h).1 (omega arith) in
     ap microradians (omega arith)
 
-pub whole : (a : ℕ) → micro_steps a 1 ≡ microradians a
-whole a = ap microradians (omega arith)
+-- and so is a part of a limit of the rotation
+pub limit_below_cap : (f : Fraction) (q factor : ℕ) → Mean 999_999 f → q ≤ 4 → factor ≤ 100 → micro_down (f.num * q * factor) (f.den * 4 * 100) ≡ micro_steps (f.num * q * factor) (f.den * 4 * 100)
+limit_below_cap f q factor mean h k =
+    let m = product (999_999 * f.den) 4 mean.mean h in
+    below-cap _ _ (omega (arith, mean.positive)) (omega (arith, product (999_999 * f.den * 4) 100 m k))
+
+-- a rotation that its field holds is kept
+pub rotation_kept : (a : ℕ) → a ≤ micro_cap → micro_down a 1 ≡ microradians a
+rotation_kept a h = ap microradians (omega arith)
 
 -- n and n_D rise with the force, m with M_e and as M_p falls, v with V_e; ρ falls as A_sh does
 pub axial-mono : {force force' : ℕ} (fcm area : ℕ) → force ≤ force' → 0 < fcm → 0 < area → (axial force fcm area).0 ≤ (axial force' fcm area).0

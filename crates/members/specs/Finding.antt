@@ -1,11 +1,12 @@
 -- What a member is found to be (document 01, "Member", "Refusals as returned").
-use Rattle.std.specs.Prelude.{◌-◌, ◌*◌, ◌&&◌, ◌||◌, ◌∷◌, ◌++◌}
+use Rattle.std.specs.Prelude.{◌-◌, ◌*◌, ◌&&◌, ◌||◌, ◌∷◌, ◌++◌, Result, Ok, Err}
 use Rattle.records.specs.Notation.{ℕ, Bool, true, false, not, List, [], ltb, eqb, pick}
 use Rattle.records.specs.{declared.Member.Member, declared.MemberCase.MemberCase, Records.zero_force, Records.in_cases, Records.known_form, Records.in_case, Records.member_case_fault, Records.member_fault}
 use Rattle.members.specs.Units.{Ratio, HoopRatio, Microradians, ratio_up, hoop_down}
 use Rattle.members.specs.Class.{code, is_wall, shear_below, class_of}
 use Rattle.members.specs.{Tables.LimitSet, Tables.published, Limits.m_limit_at, Limits.rotation_limit_at}
-use Rattle.members.specs.declared.finding.{Finding.Finding, Findings.Findings, Met.Met, CaseAnswer.CaseAnswer, CaseAnswer.TheVariants.Judged as JudgedCase, CaseAnswer.TheVariants.Refused as RefusedCase, MemberAnswer.MemberAnswer, MemberAnswer.TheVariants.Judged, MemberAnswer.TheVariants.JudgedCases, MemberAnswer.TheVariants.Refused}
+use Rattle.records.specs.declared.by_case.{FourCases.FourCases, ByForm.ByForm, ByForm.TheVariants.One, ByForm.TheVariants.Four}
+use Rattle.members.specs.declared.finding.Finding.{Finding}
 
 -- "0 where N_K ≤ 0": the compression of a force counted from zero_force
 abbrev pub compression : ℕ → ℕ
@@ -80,7 +81,7 @@ finding_by s k met m =
     }
 
 -- in each of four load cases, with the 0.40 condition of that case
-abbrev pub findings_by : LimitSet → ℕ → Met → Member → Findings
+abbrev pub findings_by : LimitSet → ℕ → FourCases Bool → Member → FourCases Finding
 findings_by s k met m =
     record {
       case1 = finding_by s k met.case1 (in_case 0 m);
@@ -94,17 +95,17 @@ abbrev pub knowledge : ℕ → Bool
 knowledge k = eqb k 90 || eqb k 100
 
 -- the answer on a member in one load case: k's 3, then the record's 3 and 4, then the finding
-unfoldable pub case_answer_by : LimitSet → ℕ → Bool → MemberCase → CaseAnswer
-case_answer_by s k met m = pick (knowledge k) (pick (eqb (member_case_fault m) 0) (JudgedCase (finding_by s k met m)) (RefusedCase (member_case_fault m))) (RefusedCase 3)
+unfoldable pub case_answer_by : LimitSet → ℕ → Bool → MemberCase → Result Finding ℕ
+case_answer_by s k met m = pick (knowledge k) (pick (eqb (member_case_fault m) 0) (Ok (finding_by s k met m)) (Err (member_case_fault m))) (Err 3)
 
 -- what is found of a good member of a form
-abbrev pub judged_by : LimitSet → ℕ → ℕ → Met → Member → MemberAnswer
-judged_by s k form met m = pick (in_cases form) (JudgedCases (findings_by s k met m)) (Judged (finding_by s k met.case1 (in_case 0 m)))
+abbrev pub judged_by : LimitSet → ℕ → ℕ → FourCases Bool → Member → ByForm Finding
+judged_by s k form met m = pick (in_cases form) (Four (findings_by s k met m)) (One (finding_by s k met.case1 (in_case 0 m)))
 
 -- the answer on one member: "k is checked first, by 3", "the form beside k" (document 02, N3), then the record's 3 and 4, then the findings
-unfoldable pub answer_by : LimitSet → ℕ → ℕ → Met → Member → MemberAnswer
+unfoldable pub answer_by : LimitSet → ℕ → ℕ → FourCases Bool → Member → Result (ByForm Finding) ℕ
 answer_by s k form met m =
-    pick (knowledge k && known_form form) (pick (eqb (member_fault form m) 0) (judged_by s k form met m) (Refused (member_fault form m))) (Refused 3)
+    pick (knowledge k && known_form form) (pick (eqb (member_fault form m) 0) (Ok (judged_by s k form met m)) (Err (member_fault form m))) (Err 3)
 
 -- by the published set
 abbrev pub finding : ℕ → Bool → MemberCase → Finding
@@ -132,19 +133,19 @@ finding_values f =
     code f.class ∷ f.m.0 ∷ f.m_limit.0 ∷ f.rotation.0 ∷ f.rotation_limit.0 ∷ flag f.over ∷ f.nd.0
     ∷ flag f.m_dropped ∷ flag f.over_m ∷ flag f.over_rotation ∷ []
 
--- what each case of an answer says
-abbrev pub returned_case : CaseAnswer → Returned
-returned_case (JudgedCase f) = found (finding_values f)
-returned_case (RefusedCase n) = refused n
+-- what an answer says
+abbrev pub returned_case : Result Finding ℕ → Returned
+returned_case (Ok f) = found (finding_values f)
+returned_case (Err n) = refused n
 
-abbrev pub returned : MemberAnswer → Returned
-returned (Judged f) = found (finding_values f)
-returned (JudgedCases f) = found (finding_values f.case1 ++ (finding_values f.case2 ++ (finding_values f.case3 ++ finding_values f.case4)))
-returned (Refused n) = refused n
+abbrev pub returned : Result (ByForm Finding) ℕ → Returned
+returned (Ok (One f)) = found (finding_values f)
+returned (Ok (Four f)) = found (finding_values f.case1 ++ (finding_values f.case2 ++ (finding_values f.case3 ++ finding_values f.case4)))
+returned (Err n) = refused n
 
 -- what the paper returns, by the published set
 abbrev pub case_returned : ℕ → Bool → MemberCase → Returned
 case_returned k met m = returned_case (case_answer_by published k met m)
 
-abbrev pub member_returned : ℕ → ℕ → Met → Member → Returned
+abbrev pub member_returned : ℕ → ℕ → FourCases Bool → Member → Returned
 member_returned k form met m = returned (answer_by published k form met m)

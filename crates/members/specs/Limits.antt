@@ -1,9 +1,9 @@
 -- The limits of a class at n, v and ρ (document 01, "Member"): "linear between rows and constant outside", as an exact fraction.
-use Rattle.std.specs.Prelude.{◌+◌, ◌-◌, ◌*◌, ◌∷◌}
-use Rattle.records.specs.Notation.{ℕ, min, max, List, [], leb, eqb, pick}
+use Rattle.std.specs.Prelude.{◌+◌, ◌-◌, ◌*◌, ◌∷◌, slice_index}
+use Rattle.records.specs.Notation.{ℕ, zero, suc, min, max, List, [], leb, eqb, pick}
 use Rattle.members.specs.Units.{Ratio, Microradians, ratio_steps, micro_steps}
 use Rattle.members.specs.Class.{Class, ColumnA, ColumnB, ColumnC, WallA, WallB}
-use Rattle.members.specs.Tables.{Two, Places, Table, LimitSet, two}
+use Rattle.members.specs.Tables.{Places, Table, LimitSet, two, four}
 use Rattle.members.specs.declared.limits.{Row.Row, Fraction.Fraction}
 
 abbrev pub row : ℕ → ℕ → Row
@@ -22,15 +22,26 @@ unfoldable pub interp : Row → List Row → ℕ → Fraction
 interp p [] x = row_limit p
 interp p (q ∷ ps) x = pick (leb x p.at) (row_limit p) (pick (leb x q.at) (segment p q x) (interp q ps x))
 
+-- row i, counted from 0, of a table; the next k rows after it; over the n rows of a table
+abbrev pub row_at : List ℕ → List ℕ → ℕ → Row
+row_at places limits i = row (slice_index places i) (slice_index limits i)
+
+abbrev pub rows_after : List ℕ → List ℕ → ℕ → ℕ → List Row
+rows_after places limits i zero = []
+rows_after places limits i (suc k) = row_at places limits (i + 1) ∷ rows_after places limits (i + 1) k
+
+abbrev pub along : ℕ → List ℕ → List ℕ → ℕ → Fraction
+along n places limits x = interp (row_at places limits 0) (rows_after places limits 0 (n - 1)) x
+
 -- between two places the same, constant outside, times the gap of the places: `interp` over these two rows, as the law `blend-interp` of proofs/Interpolation says
-abbrev pub clamp : Two → ℕ → ℕ
-clamp at x = min at.r2 (max at.r1 x)
+abbrev pub clamp : List ℕ → ℕ → ℕ
+clamp at x = min (slice_index at 1) (max (slice_index at 0) x)
 
-unfoldable pub blend : Two → Two → ℕ → ℕ
-blend at y x = y.r1 * (at.r2 - clamp at x) + y.r2 * (clamp at x - at.r1)
+unfoldable pub blend : List ℕ → List ℕ → ℕ → ℕ
+blend at y x = slice_index y 0 * (slice_index at 1 - clamp at x) + slice_index y 1 * (clamp at x - slice_index at 0)
 
-abbrev pub gap : Two → ℕ
-gap at = at.r2 - at.r1
+abbrev pub gap : List ℕ → ℕ
+gap at = slice_index at 1 - slice_index at 0
 
 -- a fraction of what was multiplied by g
 abbrev pub per : ℕ → Fraction → Fraction
@@ -38,27 +49,23 @@ per g f = record { num = f.num; den = f.den * g }
 
 -- column A by n
 unfoldable pub column_a : Places → Table → ℕ → Fraction
-column_a p t n =
-    interp (row p.axial.r1 t.a.r1) (row p.axial.r2 t.a.r2 ∷ row p.axial.r3 t.a.r3 ∷ row p.axial.r4 t.a.r4 ∷ []) n
+column_a p t n = along 4 p.axial t.a n
 
--- a row of column B, by ρ: between its limits at the first and the second ρ
-abbrev pub row_b : ℕ → Two → ℕ → ℕ → ℕ → Row
-row_b at hoops y1 y2 ρ = row at (blend hoops (two y1 y2) ρ)
+-- the limit of column B at row i, by ρ: between those at the first and the second ρ
+abbrev pub limit_b : Places → Table → ℕ → ℕ → ℕ
+limit_b p t ρ i = blend p.hoops (two (slice_index t.b1 i) (slice_index t.b2 i)) ρ
 
 -- column B: by ρ at each n, then by n
 unfoldable pub column_b : Places → Table → ℕ → ℕ → Fraction
-column_b p t n ρ =
-    per (gap p.hoops) (interp (row_b p.axial.r1 p.hoops t.b1.r1 t.b2.r1 ρ) (row_b p.axial.r2 p.hoops t.b1.r2 t.b2.r2 ρ
-    ∷ row_b p.axial.r3 p.hoops t.b1.r3 t.b2.r3 ρ ∷ row_b p.axial.r4 p.hoops t.b1.r4 t.b2.r4 ρ ∷ []) n)
+column_b p t n ρ = per (gap p.hoops) (along 4 p.axial (four (limit_b p t ρ 0) (limit_b p t ρ 1) (limit_b p t ρ 2) (limit_b p t ρ 3)) n)
 
 -- column C by n
 unfoldable pub column_c : Places → Table → ℕ → Fraction
-column_c p t n = interp (row p.axial.r3 t.c.r1) (row p.axial.r4 t.c.r2 ∷ []) n
+column_c p t n = along 2 (two (slice_index p.axial 2) (slice_index p.axial 3)) t.c n
 
 -- wall A: by v at each n, then by n
-unfoldable pub wall_rows : Places → Two → Two → ℕ → ℕ → Fraction
-wall_rows p y1 y2 n v =
-    per (gap p.stress) (interp (row p.walls.r1 (blend p.stress y1 v)) (row p.walls.r2 (blend p.stress y2 v) ∷ []) n)
+unfoldable pub wall_rows : Places → List ℕ → List ℕ → ℕ → ℕ → Fraction
+wall_rows p y1 y2 n v = per (gap p.stress) (along 2 p.walls (two (blend p.stress y1 v) (blend p.stress y2 v)) n)
 
 -- wall A with or without boundary zone
 abbrev pub wall_a : Places → Table → ℕ → ℕ → ℕ → Fraction
@@ -66,7 +73,7 @@ wall_a p t zone n v = pick (eqb zone 1) (wall_rows p t.zone1 t.zone2 n v) (wall_
 
 -- wall B by v
 unfoldable pub wall_b : Places → Table → ℕ → Fraction
-wall_b p t v = interp (row p.stress.r1 t.wall.r1) (row p.stress.r2 t.wall.r2 ∷ []) v
+wall_b p t v = along 2 p.stress t.wall v
 
 -- the limit of a class before 3/4 and factor
 abbrev pub exact : Places → Table → Class → ℕ → ℕ → ℕ → ℕ → Fraction

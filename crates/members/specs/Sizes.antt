@@ -1,14 +1,11 @@
 -- The sizes that the code computes with, so that no product wraps.
-use Rattle.std.specs.Prelude.{ℕ, ◌*◌, ◌/◌, ◌≤◌, ◌<◌, min}
+use Rattle.std.specs.Prelude.{ℕ, List, slice_index, ◌*◌, ◌/◌, ◌≤◌, ◌<◌, min}
 use Rattle.members.specs.Units.{Microradians}
 use Rattle.members.specs.declared.limits.Row.{Row}
 use Rattle.members.specs.declared.limits.Fraction.{Fraction}
-use Rattle.members.specs.declared.tables.Four.{Four}
-use Rattle.members.specs.declared.tables.Two.{Two}
 use Rattle.members.specs.declared.tables.Places.{Places}
 use Rattle.members.specs.declared.tables.Table.{Table}
 use Rattle.members.specs.declared.tables.LimitSet.{LimitSet}
-use Rattle.members.specs.declared.tables.Share.{Share}
 
 -- what the field of a rotation holds at most ("run from 0 .. to 9,999,999"): the cap of the code's unit, which no limit reaches (`below-cap` of proofs/Rounding)
 abbrev pub micro_cap : ℕ
@@ -18,15 +15,15 @@ abbrev pub micro_down : ℕ → ℕ → Microradians
 micro_down a b = record { 0 = min micro_cap (a / b) }
 
 -- rising places of at most 200,000
-pub record Places4 (f : Four) : Type 0 where
-  pub first : f.r1 < f.r2
-  pub second : f.r2 < f.r3
-  pub third : f.r3 < f.r4
-  pub most : f.r4 ≤ 200_000
+pub record Places4 (f : List ℕ) : Type 0 where
+  pub first : slice_index f 0 < slice_index f 1
+  pub second : slice_index f 1 < slice_index f 2
+  pub third : slice_index f 2 < slice_index f 3
+  pub most : slice_index f 3 ≤ 200_000
 
-pub record Places2 (t : Two) : Type 0 where
-  pub first : t.r1 < t.r2
-  pub most : t.r2 ≤ 200_000
+pub record Places2 (t : List ℕ) : Type 0 where
+  pub first : slice_index t 0 < slice_index t 1
+  pub most : slice_index t 1 ≤ 200_000
 
 pub record SizedPlaces (p : Places) : Type 0 where
   pub axial : Places4 p.axial
@@ -35,15 +32,15 @@ pub record SizedPlaces (p : Places) : Type 0 where
   pub stress : Places2 p.stress
 
 -- limits of at most so much
-pub record Most4 (most : ℕ) (f : Four) : Type 0 where
-  pub r1 : f.r1 ≤ most
-  pub r2 : f.r2 ≤ most
-  pub r3 : f.r3 ≤ most
-  pub r4 : f.r4 ≤ most
+pub record Most4 (most : ℕ) (f : List ℕ) : Type 0 where
+  pub r1 : slice_index f 0 ≤ most
+  pub r2 : slice_index f 1 ≤ most
+  pub r3 : slice_index f 2 ≤ most
+  pub r4 : slice_index f 3 ≤ most
 
-pub record Most2 (most : ℕ) (t : Two) : Type 0 where
-  pub r1 : t.r1 ≤ most
-  pub r2 : t.r2 ≤ most
+pub record Most2 (most : ℕ) (t : List ℕ) : Type 0 where
+  pub r1 : slice_index t 0 ≤ most
+  pub r2 : slice_index t 1 ≤ most
 
 pub record SizedTable (most : ℕ) (t : Table) : Type 0 where
   pub a : Most4 most t.a
@@ -56,15 +53,15 @@ pub record SizedTable (most : ℕ) (t : Table) : Type 0 where
   pub plain2 : Most2 most t.plain2
   pub wall : Most2 most t.wall
 
--- a share that the code can weigh
-pub record SizedShare (s : Share) : Type 0 where
-  pub ends : Places2 s.ends
-  pub shares : Most2 100 s.shares
-
 -- a row that the code can weigh
 pub record SizedRow (p : Row) : Type 0 where
   pub at : p.at ≤ 200_000
   pub limit : p.limit ≤ 4_000_000_000_000
+
+-- rows that the code can weigh
+pub record SizedRows (n : ℕ) (places limits : List ℕ) : Type 0 where
+  pub at : (i : ℕ) → i < n → slice_index places i ≤ 200_000
+  pub limit : (i : ℕ) → i < n → slice_index limits i ≤ 4_000_000_000_000
 
 -- a mean of limits of at most so much
 pub record Mean (most : ℕ) (f : Fraction) : Type 0 where

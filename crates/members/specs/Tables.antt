@@ -1,12 +1,13 @@
 -- The tables of limits (document 01, "Member").
-use Rattle.records.specs.Notation.{ℕ}
-pub use Rattle.members.specs.declared.tables.{Four.Four, Two.Two, Places.Places, Table.Table, LimitSet.LimitSet, Share.Share}
+use Rattle.std.specs.Prelude.{◌∷◌}
+use Rattle.records.specs.Notation.{ℕ, List, []}
+pub use Rattle.members.specs.declared.tables.{Places.Places, Table.Table, LimitSet.LimitSet, Share.Share}
 
-abbrev pub four : ℕ → ℕ → ℕ → ℕ → Four
-four a b c d = record { r1 = a; r2 = b; r3 = c; r4 = d }
+abbrev pub four : ℕ → ℕ → ℕ → ℕ → List ℕ
+four a b c d = a ∷ b ∷ c ∷ d ∷ []
 
-abbrev pub two : ℕ → ℕ → Two
-two a b = record { r1 = a; r2 = b }
+abbrev pub two : ℕ → ℕ → List ℕ
+two a b = a ∷ b ∷ []
 
 -- where the rows stand: n of columns, ρ of column B, n and v of walls
 unfoldable pub places : Places
@@ -45,7 +46,7 @@ rotations =
 
 -- the allowed share of a storey, hundredths, at two axial ratios per member: "0.35 while Σ ≤ 10,000 × c, 0 from Σ = 65,000 × c" (document 02, N2)
 abbrev pub published_share : Share
-published_share = record { ends = two 10_000 65_000; shares = two 35 0 }
+published_share = record { first = record { at = 10_000; limit = 35 }; second = record { at = 65_000; limit = 0 } }
 
 -- the set that document 01 publishes
 abbrev pub published : LimitSet

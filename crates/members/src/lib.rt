@@ -3,6 +3,8 @@
 
 pub mod class;
 pub mod finding;
+pub mod good_case;
+pub mod knowledge;
 pub mod limits;
 pub mod tables;
 pub mod units;

@@ -2,53 +2,39 @@
 ghost use Rattle.std.specs.Prelude.{◌≡◌};
 ghost use Rattle.members.specs.Tables.{places, moments, rotations, published, published_share};
 
-// A number at each of four rows.
-#[derive(Clone, Copy)]
-pub struct Four {
-    pub r1: u64,
-    pub r2: u64,
-    pub r3: u64,
-    pub r4: u64,
-}
-
-// A number at each of two rows.
-#[derive(Clone, Copy)]
-pub struct Two {
-    pub r1: u64,
-    pub r2: u64,
-}
+use crate::limits::Row;
 
 // Where the rows stand.
 #[derive(Clone, Copy)]
 pub struct Places {
     // n of the columns' rows
-    pub axial: Four,
+    pub axial: [u64; 4],
     // ρ of column class B
-    pub hoops: Two,
+    pub hoops: [u64; 2],
     // n of the walls' rows
-    pub walls: Two,
+    pub walls: [u64; 2],
     // v of the walls' rows
-    pub stress: Two,
+    pub stress: [u64; 2],
 }
 
 // The limits at the rows, of m or of the rotation.
 #[derive(Clone, Copy)]
 pub struct Table {
     // column A at the four n
-    pub a: Four,
+    pub a: [u64; 4],
     // column B at the four n, at the first and at the second ρ
-    pub b1: Four,
-    pub b2: Four,
+    pub b1: [u64; 4],
+    pub b2: [u64; 4],
     // column C at the last two n
-    pub c: Two,
+    pub c: [u64; 2],
     // wall A with boundary zone at the two v, at the first and at the second n
-    pub zone1: Two,
-    pub zone2: Two,
+    pub zone1: [u64; 2],
+    pub zone2: [u64; 2],
     // wall A without
-    pub plain1: Two,
-    pub plain2: Two,
+    pub plain1: [u64; 2],
+    pub plain2: [u64; 2],
     // wall B at the two v
-    pub wall: Two,
+    pub wall: [u64; 2],
 }
 
 // A whole set.
@@ -61,6 +47,7 @@ pub struct LimitSet {
 
 impl Places {
     // Where the rows of the published set stand.
+    #[tactic(auto, unfolding(crate::specs::Tables::places))]
     fn published() -> Self
         ensures { result ≡ places }
     {
@@ -70,6 +57,7 @@ impl Places {
 
 impl Table {
     // The published limits of m.
+    #[tactic(auto, unfolding(crate::specs::Tables::moments))]
     fn moments() -> Self
         ensures { result ≡ moments }
     {
@@ -77,6 +65,7 @@ impl Table {
     }
 
     // The published limits of the rotation.
+    #[tactic(auto, unfolding(crate::specs::Tables::rotations))]
     fn rotations() -> Self
         ensures { result ≡ rotations }
     {
@@ -98,115 +87,41 @@ impl LimitSet {
 }
 
 const PLACES: Places = Places {
-    axial: Four {
-        r1: 10_000,
-        r2: 60_000,
-        r3: 70_000,
-        r4: 100_000,
-    },
-    hoops: Two { r1: 500, r2: 6_000 },
-    walls: Two {
-        r1: 10_000,
-        r2: 25_000,
-    },
-    stress: Two {
-        r1: 90_000,
-        r2: 130_000,
-    },
+    axial: [10_000, 60_000, 70_000, 100_000],
+    hoops: [500, 6_000],
+    walls: [10_000, 25_000],
+    stress: [90_000, 130_000],
 };
 
 const MOMENTS: Table = Table {
-    a: Four {
-        r1: 600_000,
-        r2: 300_000,
-        r3: 100_000,
-        r4: 100_000,
-    },
-    b1: Four {
-        r1: 250_000,
-        r2: 125_000,
-        r3: 100_000,
-        r4: 100_000,
-    },
-    b2: Four {
-        r1: 600_000,
-        r2: 300_000,
-        r3: 100_000,
-        r4: 100_000,
-    },
-    c: Two {
-        r1: 100_000,
-        r2: 100_000,
-    },
-    zone1: Two {
-        r1: 700_000,
-        r2: 400_000,
-    },
-    zone2: Two {
-        r1: 400_000,
-        r2: 250_000,
-    },
-    plain1: Two {
-        r1: 450_000,
-        r2: 250_000,
-    },
-    plain2: Two {
-        r1: 250_000,
-        r2: 150_000,
-    },
-    wall: Two {
-        r1: 500_000,
-        r2: 250_000,
-    },
+    a: [600_000, 300_000, 100_000, 100_000],
+    b1: [250_000, 125_000, 100_000, 100_000],
+    b2: [600_000, 300_000, 100_000, 100_000],
+    c: [100_000, 100_000],
+    zone1: [700_000, 400_000],
+    zone2: [400_000, 250_000],
+    plain1: [450_000, 250_000],
+    plain2: [250_000, 150_000],
+    wall: [500_000, 250_000],
 };
 
 const ROTATIONS: Table = Table {
-    a: Four {
-        r1: 40_000,
-        r2: 15_000,
-        r3: 5_000,
-        r4: 0,
-    },
-    b1: Four {
-        r1: 12_500,
-        r2: 5_000,
-        r3: 5_000,
-        r4: 0,
-    },
-    b2: Four {
-        r1: 35_000,
-        r2: 10_000,
-        r3: 5_000,
-        r4: 0,
-    },
-    c: Two { r1: 5_000, r2: 0 },
-    zone1: Two {
-        r1: 30_000,
-        r2: 15_000,
-    },
-    zone2: Two {
-        r1: 20_000,
-        r2: 10_000,
-    },
-    plain1: Two {
-        r1: 15_000,
-        r2: 7_500,
-    },
-    plain2: Two {
-        r1: 10_000,
-        r2: 5_000,
-    },
-    wall: Two {
-        r1: 20_000,
-        r2: 10_000,
-    },
+    a: [40_000, 15_000, 5_000, 0],
+    b1: [12_500, 5_000, 5_000, 0],
+    b2: [35_000, 10_000, 5_000, 0],
+    c: [5_000, 0],
+    zone1: [30_000, 15_000],
+    zone2: [20_000, 10_000],
+    plain1: [15_000, 7_500],
+    plain2: [10_000, 5_000],
+    wall: [20_000, 10_000],
 };
 
-// The allowed share of a storey: in hundredths at the first and the second axial ratio per member, which stand on the grid of `Ratio`; linear between them.
+// The allowed share of a storey: two rows, each with the share in hundredths at an axial ratio per member, which stands on the grid of `Ratio`; linear between them.
 #[derive(Clone, Copy)]
 pub struct Share {
-    pub ends: Two,
-    pub shares: Two,
+    pub first: Row,
+    pub second: Row,
 }
 
 impl Share {
@@ -219,9 +134,12 @@ impl Share {
 }
 
 const PUBLISHED_SHARE: Share = Share {
-    ends: Two {
-        r1: 10_000,
-        r2: 65_000,
+    first: Row {
+        at: 10_000,
+        limit: 35,
     },
-    shares: Two { r1: 35, r2: 0 },
+    second: Row {
+        at: 65_000,
+        limit: 0,
+    },
 };

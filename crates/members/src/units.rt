@@ -26,11 +26,7 @@ impl Ratio {
         ensures { result ≡ ratio_up num den }
     {
         let steps = (num * Ratio::SCALE + (den - 1)) / den;
-        if steps < Ratio::CAP {
-            Ratio(steps)
-        } else {
-            Ratio(Ratio::CAP)
-        }
+        Ratio(steps.min(Ratio::CAP))
     }
 
     // A limit of num / den steps of the grid, rounded down.
@@ -53,11 +49,7 @@ impl HoopRatio {
         ensures { result ≡ hoop_down num den }
     {
         let steps = num * HoopRatio::SCALE / den;
-        if steps < HoopRatio::CAP {
-            HoopRatio(steps)
-        } else {
-            HoopRatio(HoopRatio::CAP)
-        }
+        HoopRatio(steps.min(HoopRatio::CAP))
     }
 }
 
@@ -71,11 +63,6 @@ impl Microradians {
         requires { 0 < den }
         ensures { result ≡ micro_down num den }
     {
-        let steps = num / den;
-        if steps < Microradians::CAP {
-            Microradians(steps)
-        } else {
-            Microradians(Microradians::CAP)
-        }
+        Microradians((num / den).min(Microradians::CAP))
     }
 }

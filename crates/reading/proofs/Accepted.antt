@@ -3,19 +3,20 @@ use Prim.Native.Nat.{ℕ, zero, suc, ◌+◌, ◌≤◌, ◌<◌}
 use native.Mathlib.Omega.{arith}
 use native.Mathlib.Numerals.{add-one}
 use mathlib.Core.Bool.{Bool, true, false}
-use mathlib.Core.List.{List, [], ◌∷◌, ◌++◌, append_assoc, append-nil}
-use mathlib.Core.Path.{◌≡◌, refl, sym, ◌∙◌}
+use mathlib.Core.List.{List, [], ◌∷◌, ◌++◌}
+use mathlib.Core.Path.{◌≡◌, refl, ap, sym, ◌∙◌}
 use lib.Dec.{ltb, eqb}
-use lib.ListN.{length, take, drop, get_or, length-append, length-drop, take-append-drop}
-use lib.Seq.{drop-cons, set_at, take_at, drop-drop, drop-append-add, length-take-le}
+use lib.ListN.{length, drop, length-append, length-drop}
+use lib.Seq.{take_at, drop-drop, drop-append-add}
 use borrow.Author.Tests.{eqb-true, ltb-true, ltb-false}
 use Rattle.records.specs.Notation.{pick, listed}
 use Rattle.records.specs.Records.{storey_kind, member_kind, header_fault, sides_fault, repeated}
-use Rattle.format.specs.Lines.{line_size, shaped, value_at, fields_fault, header_at, case_start, case_lines, member_size}
+use Rattle.format.specs.Lines.{line_size, shaped, value_at, fields_fault, header_at, case_start, case_lines}
 use Rattle.reading.specs.Survey.{form_of, line_start, line_number, members_before, storey, member_start, member, shape, unheld, header_line_fault, storey_line_fault, member_line_fault, case_number_fault, case_line_fault, no_fault, at-line, first_fault, cases_fault, member_lines_fault, members_fault, storeys_fault, trailing, lines_fault, survey_fault, first_members, survey}
-use Rattle.reading.specs.Filling.{placed, filled_members}
-use Rattle.reading.specs.Checks.{Fits}
-use Rattle.reading.specs.Answer.{told, form_told, storeys_told, storeys_after_call, members_after_call}
+use Rattle.reading.specs.Filling.{filled_members}
+use Rattle.reading.specs.Checks.{Sound, MemberSound, Fits}
+use Rattle.reading.specs.Answer.{filled, refusal, told, form_told, storeys_told, storeys_after_call, members_after_call}
+use Rattle.records.specs.declared.Header.{Header}
 use Rattle.records.specs.declared.Storey.{Storey}
 use Rattle.records.specs.declared.Member.{Member}
 use Rattle.records.specs.declared.Kind.{Kind}
@@ -23,10 +24,10 @@ use Rattle.records.specs.declared.Kind.TheVariants.{B, D}
 use Rattle.records.proofs.Firsts.{first-clear}
 use Rattle.records.proofs.Validity.{clear, count_most}
 use Rattle.checks.proofs.Refusals.{None, in-order-clear, one, rest}
-use Rattle.format.proofs.LineText.{Clean, MemberClean, clean-fits, member-fits}
-use Rattle.reading.proofs.Places.{next-storey, next-members}
+use Rattle.format.proofs.LineText.{Clean, MemberClean, clean-fits}
 use Rattle.reading.proofs.Lines.{storey-good}
 use Rattle.reading.proofs.Turns.{line_clear, else-clear}
+use Rattle.reading.proofs.Placed.{placed-listed}
 use Rattle.reading.proofs.Filling.{before-suc}
 use Rattle.reading.proofs.Numbers.{form-is, length-listed, length-members, ten-storeys}
 
@@ -54,6 +55,9 @@ pub header-checks : (s : List ℕ) → header_line_fault s ≡ 0 → None (shape
 unfolding header_line_fault
 header-checks s e = in-order-clear _ e
 
+sound-line : {kind : Kind} {s : List ℕ} {at : ℕ} → Clean kind s at → Sound kind s at
+sound-line c = record { lies = clean-fits c; written = c.written }
+
 -- ---- a storey without a refusal
 module _ (form : ℕ) (s : List ℕ) (srows mrows i : ℕ) (e : (storeys_fault form s srows mrows i).number ≡ 0) where
   both : (storey_line_fault form s srows i ≡ 0) × ((members_fault form s mrows i).number ≡ 0)
@@ -68,6 +72,9 @@ module _ (form : ℕ) (s : List ℕ) (srows mrows i : ℕ) (e : (storeys_fault f
 
   storey-is-clean : Clean (storey_kind form) s (line_start form i (members_before form s i))
   storey-is-clean = let c = storey-checks form s srows i storey-none in is-clean (storey_kind form) s _ (one c) (one (rest (rest c)))
+
+  storey-is-sound : Sound (storey_kind form) s (line_start form i (members_before form s i))
+  storey-is-sound = sound-line storey-is-clean
 
   pub storey-held : (line_start form i (members_before form s i) + line_size (storey_kind form) ≤ length s) × (i < srows) × ((storey form s i).count ≤ 200)
   storey-held =
@@ -110,24 +117,18 @@ module _ (form : ℕ) (s : List ℕ) (srows mrows i : ℕ) (e : (storeys_fault f
           numbered = λ c l. eqb-true (value_at D s (case_start place c) 0) (c + 1) (clear _ 0 12 (one (rest (rest (k c l)))) (omega arith)).0;
         }
 
-    member-held : (place + member_size form ≤ length s) × (members_before form s i + j < mrows)
-    member-held = (member-fits member-is-clean, has-row (members_before form s i + j) mrows (one (rest (member-checks form s mrows i j member-none))))
+    member-is-sound : MemberSound form s place
+    member-is-sound = record { line = sound-line member-is-clean.line; cases = λ c l. sound-line (member-is-clean.cases c l) }
 
-  last-member : (c : ℕ) → c ≡ (storey form s i).count → (line_start form (i + 1) (members_before form s i + c) ≤ length s) × (members_before form s i ≤ mrows → members_before form s i + c ≤ mrows)
-  last-member zero q =
-      let b = members_before form s i in
-      (omega (arith, storey-held.0, next-storey form i b, next-members form (i + 1) b 0), λ h. omega arith)
-  last-member (suc c) q =
-      let b = members_before form s i in
-      let m = member-held c (omega arith) in
-      let k : members_before form s i + suc c ≡ (members_before form s i + c) + 1 = omega arith in
-      (rw k (omega (arith, m.0, next-members form (i + 1) (b + c) 1)), λ h. omega (arith, m.1))
+    member-held : members_before form s i + j < mrows
+    member-held = has-row (members_before form s i + j) mrows (one (rest (member-checks form s mrows i j member-none)))
 
-  lines-held : line_start form (i + 1) (members_before form s (i + 1)) ≤ length s
-  lines-held = rw (before-suc form s i) (last-member (storey form s i).count refl).0
+  last-member : (c : ℕ) → c ≡ (storey form s i).count → members_before form s i ≤ mrows → members_before form s i + c ≤ mrows
+  last-member zero q h = omega arith
+  last-member (suc c) q h = omega (arith, member-held c (omega arith))
 
   members-held : members_before form s i ≤ mrows → members_before form s (i + 1) ≤ mrows
-  members-held h = rw (before-suc form s i) ((last-member (storey form s i).count refl).1 h)
+  members-held h = rw (before-suc form s i) (last-member (storey form s i).count refl h)
 
 -- ---- the lines after the B line of a file with n storeys, without a refusal
 module _ (form : ℕ) (s : List ℕ) (srows mrows : ℕ) where
@@ -135,7 +136,7 @@ module _ (form : ℕ) (s : List ℕ) (srows mrows : ℕ) where
   Clear n = (i : ℕ) → i < n → (storeys_fault form s srows mrows i).number ≡ 0
 
   fits : (n : ℕ) → n ≤ 10 → Clear n → Fits form s n
-  fits n h e = record { storeys = h; counts = λ i l. (storey-held form s srows mrows i (e i l)).2; lines = λ i l. lines-held form s srows mrows i (e i l) }
+  fits n h e = record { storeys = h; counts = λ i l. (storey-held form s srows mrows i (e i l)).2; lines = λ i l. storey-is-sound form s srows mrows i (e i l); members = λ i l. member-is-sound form s srows mrows i (e i l) }
 
   storeys-enough : (n : ℕ) → Clear n → n ≤ srows
   storeys-enough zero e = omega arith
@@ -198,23 +199,10 @@ module _ (s : List ℕ) (srows mrows : ℕ) (z : (survey_fault s srows mrows).nu
       (fits (form_of s) s srows mrows n (ten-storeys s header-line) c, storeys-enough (form_of s) s srows mrows n c, members-enough (form_of s) s srows mrows n c)
 
 no-storeys : (form : ℕ) (s : List ℕ) → Fits form s 0
-no-storeys form s = record { storeys = omega arith; counts = λ i l. let z : ⊥ = omega arith in absurd z; lines = λ i l. let z : ⊥ = omega arith in absurd z }
+no-storeys form s =
+    record { storeys = omega arith; counts = λ i l. let z : ⊥ = omega arith in absurd z; lines = λ i l. let z : ⊥ = omega arith in absurd z; members = λ i l. let z : ⊥ = omega arith in absurd z }
 
 -- ---- the rows afterwards
-module _ {A : Type 0} (f : ℕ → A) (d : A) where
-  pub placed-listed : (k n : ℕ) (rows : List A) → k + n ≤ length rows → placed f k n rows ≡ take k rows ++ listed f n ++ drop (k + n) rows
-  unfolding placed listed
-  placed-listed k zero rows h = let e : k + 0 ≡ k = omega arith in rw (e, append-nil (take k rows)) (sym (take-append-drop k rows))
-  placed-listed k (suc n) rows h =
-      let l : k + n < length rows = omega arith in
-      let p : length (take k rows ++ listed f n) ≡ k + n = rw (length-append (take k rows) (listed f n), length-take-le k rows (omega arith), length-listed f n) in
-      let q : k + suc n ≡ suc (k + n) = omega arith in
-      rw (placed-listed k n rows (omega arith), drop-cons rows (k + n) d l, set_at (take k rows ++ listed f n) (get_or rows (k + n) d) (drop (suc (k + n)) rows) (f n) (k + n) p, q)
-      (simp append_assoc)
-
-  pub placed-front : (n : ℕ) (rows : List A) → n ≤ length rows → placed f 0 n rows ≡ listed f n ++ drop n rows
-  placed-front n rows h = let z : 0 + n ≡ n = omega arith in rw z at (placed-listed 0 n rows (omega arith))
-
 drop_past : {A : Type 0} (xs ys : List A) (m c : ℕ) → length xs ≡ m → drop (m + c) (xs ++ ys) ≡ drop c ys
 drop_past xs ys m c p = rw (← p) (drop-append-add xs ys c)
 
@@ -231,10 +219,24 @@ filled-listed form s d (suc i) rows h =
     let e : drop (m + c) (front ++ back) ≡ drop (m + c) rows = drop_past front back m c p ∙ drop-drop c m rows in
     rw (filled-listed form s d i rows (omega arith), placed-listed (member form s i) d m c (front ++ back) q, take_at front back m p, e)
 
+-- an accepted file is read in its form
+form-by : (t : Bool) (s : List ℕ) (srows mrows : ℕ) (h : Header) (n m : ℕ) → eqb (survey_fault s srows mrows).number 0 ≡ t → filled h n m ≡ told (survey s srows mrows) → form_of s ≡ form_told (told (survey s srows mrows))
+unfolding survey
+form-by true s srows mrows h n m e q = rw e (sym (form-is (form_of s) s 0))
+form-by false s srows mrows h n m e q =
+    let k : filled h n m ≡ refusal (survey_fault s srows mrows).number (survey_fault s srows mrows).line = rw e at q in
+    let z : ◌≡◌ {A = ℕ} 0 1 = cc in absurd (omega arith)
+
+told-form : (s : List ℕ) (srows mrows : ℕ) (h : Header) (n m : ℕ) → filled h n m ≡ told (survey s srows mrows) → form_of s ≡ form_told (told (survey s srows mrows))
+told-form s srows mrows h n m = form-by (eqb (survey_fault s srows mrows).number 0) s srows mrows h n m refl
+
 -- what an answer tells of the form and the storeys of a file
 module _ (s : List ℕ) (srows mrows form n : ℕ) where
   abbrev Told : Type 0
   Told = (form ≡ form_told (told (survey s srows mrows))) × (n ≡ storeys_told (told (survey s srows mrows)))
+
+  pub told-is : (h : Header) (m : ℕ) → form ≡ form_of s → filled h n m ≡ told (survey s srows mrows) → Told
+  told-is h m f e = (f ∙ told-form s srows mrows h n m e, ap storeys_told e)
 
   of-file : eqb (survey_fault s srows mrows).number 0 ≡ true → Told → (form ≡ form_of s) × (n ≡ (header_at (form_of s) s 0).count)
   unfolding survey
@@ -253,13 +255,10 @@ module _ (s : List ℕ) (srows mrows form n : ℕ) where
   pub lies : Told → Fits form s n × (n ≤ srows) × (members_before form s n ≤ mrows)
   lies = by-fault (eqb (survey_fault s srows mrows).number 0) refl
 
-  storeys-by : (t : Bool) (d : Storey) (rows : List Storey) → eqb (survey_fault s srows mrows).number 0 ≡ t → Told → srows ≡ length rows → placed (storey form s) 0 n rows ≡ storeys_after_call (survey s srows mrows) rows
-  unfolding survey placed
-  storeys-by true d rows e q l =
-      let k = of-file e q in
-      let h : n ≤ length rows = omega (arith, (lies q).1) in
-      placed-front (storey form s) d n rows h ∙ rw (e, k.0, k.1, length-listed (storey (form_of s) s) (header_at (form_of s) s 0).count)
-  storeys-by false d rows e q l = rw (of-refusal e q, e)
+  storeys-by : (t : Bool) (rows : List Storey) → eqb (survey_fault s srows mrows).number 0 ≡ t → Told → listed (storey form s) n ++ drop n rows ≡ storeys_after_call (survey s srows mrows) rows
+  unfolding survey listed
+  storeys-by true rows e q = let k = of-file e q in rw (e, k.0, k.1, length-listed (storey (form_of s) s) (header_at (form_of s) s 0).count)
+  storeys-by false rows e q = rw (of-refusal e q, e)
 
   members-by : (t : Bool) (d : Member) (rows : List Member) → eqb (survey_fault s srows mrows).number 0 ≡ t → Told → mrows ≡ length rows → filled_members form s n rows ≡ members_after_call (survey s srows mrows) rows
   unfolding survey filled_members
@@ -270,8 +269,8 @@ module _ (s : List ℕ) (srows mrows form n : ℕ) where
   members-by false d rows e q l = rw (of-refusal e q, e)
 
   -- the rows after an answer
-  pub storeys-are : (d : Storey) (rows : List Storey) → Told → srows ≡ length rows → placed (storey form s) 0 n rows ≡ storeys_after_call (survey s srows mrows) rows
-  storeys-are d rows = storeys-by (eqb (survey_fault s srows mrows).number 0) d rows refl
+  pub storeys-are : (rows : List Storey) → Told → listed (storey form s) n ++ drop n rows ≡ storeys_after_call (survey s srows mrows) rows
+  storeys-are rows = storeys-by (eqb (survey_fault s srows mrows).number 0) rows refl
 
   pub members-are : (d : Member) (rows : List Member) → Told → mrows ≡ length rows → filled_members form s n rows ≡ members_after_call (survey s srows mrows) rows
   members-are d rows = members-by (eqb (survey_fault s srows mrows).number 0) d rows refl

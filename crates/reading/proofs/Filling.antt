@@ -6,15 +6,13 @@ use native.Mathlib.Numerals.{add-one}
 use mathlib.Core.List.{List}
 use mathlib.Core.Logic.{⊎_elim}
 use mathlib.Core.Path.{◌≡◌, refl, ap, sym, ◌∙◌}
-use lib.ListN.{length}
 use Rattle.records.specs.Records.{storey_kind}
-use Rattle.format.specs.Lines.{line_size, storey_at, member_at}
+use Rattle.format.specs.Lines.{storey_at, member_at}
 use Rattle.reading.specs.Survey.{line_start, members_before, storey, member}
 use Rattle.reading.specs.Filling.{placed, filled_members}
-use Rattle.reading.specs.Checks.{Fits}
+use Rattle.reading.specs.Checks.{Sound, MembersSound, Fits}
 use Rattle.records.specs.declared.Storey.{Storey}
 use Rattle.records.specs.declared.Member.{Member}
-use Rattle.reading.proofs.Places.{next-storey, next-members}
 
 pub before-suc : (form : ℕ) (s : List ℕ) (i : ℕ) → members_before form s (i + 1) ≡ members_before form s i + (storey form s i).count
 unfolding members_before
@@ -42,12 +40,11 @@ module _ (form : ℕ) (s : List ℕ) (n : ℕ) (f : Fits form s n) where
   before_small (suc i) h = omega (arith, before_small i (omega arith), f.counts i h)
 
   module _ (i m : ℕ) (h : i < n) (e : m ≡ members_before form s i) where
-    pub storey-lies : (i ≤ 10) × (m ≤ 2000) × (line_start form i m + line_size (storey_kind form) ≤ length s)
-    storey-lies =
-        let b = before_small i (omega arith) in
-        let c = (storey form s i).count in
-        let l : line_start form (i + 1) (m + (storey form s i).count) ≤ length s = rw (e, ← before-suc form s i) (f.lines i h) in
-        (omega (arith, f.storeys), omega (arith, f.storeys), omega (arith, next-members form (i + 1) m c, next-storey form i m))
+    pub storey-small : (i ≤ 9) × (m ≤ 2000)
+    storey-small = let b = before_small i (omega arith) in (omega (arith, f.storeys), omega (arith, f.storeys))
+
+    pub storey-sound : Sound (storey_kind form) s (line_start form i m)
+    storey-sound = rw e (f.lines i h)
 
     module _ (r : Storey) (c : ℕ) (g : r ≡ storey_at form s (line_start form i m)) (k : c ≡ r.count) where
       pub storey-is : r ≡ storey form s i
@@ -59,15 +56,14 @@ module _ (form : ℕ) (s : List ℕ) (n : ℕ) (f : Fits form s n) where
       pub before-next : m + c ≡ members_before form s (i + 1)
       before-next = omega (arith, before-suc form s i, count-is)
 
-      pub members-lie : (rows : ℕ) → members_before form s n ≤ rows → (i ≤ 9) × (m + c ≤ 2000) × (line_start form (i + 1) (m + c) ≤ length s) × (m + c ≤ rows)
-      members-lie rows t =
-          let b = before_small i (omega arith) in
-          let d = f.counts i h in
-          let u = before-rises form s (i + 1) n (omega arith) in
-          (omega (arith, f.storeys), omega (arith, count-is, f.storeys), rw before-next (f.lines i h), omega (arith, before-next))
+      pub members-small : m + c ≤ 2000
+      members-small = let b = before_small i (omega arith) in let d = f.counts i h in omega (arith, count-is, f.storeys)
 
-      pub next_small : m + c ≤ 2000
-      next_small = (members-lie (members_before form s n) (le_refl _)).1
+      pub members-held : (rows : ℕ) → members_before form s n ≤ rows → m + c ≤ rows
+      members-held rows t = let u = before-rises form s (i + 1) n (omega arith) in omega (arith, before-next)
+
+      pub members-sound : MembersSound form s i m c
+      members-sound = rw (e, count-is) (f.members i h)
 
       pub filled_next : (rows now after : List Member) → now ≡ filled_members form s i rows → after ≡ placed (λ (j : ℕ). member_at form s (line_start form (i + 1) (m + j))) m c now → after ≡ filled_members form s (i + 1) rows
       filled_next rows now after p q = q ∙ rw (p, e, count-is) (sym (filled-suc form s i rows))

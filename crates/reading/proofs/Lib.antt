@@ -8,5 +8,4 @@ pub mod Numbers
 pub mod Placed
 pub mod Filling
 pub mod Accepted
-pub mod Numbered
 pub mod Passed

@@ -12,13 +12,14 @@ use Rattle.records.specs.Records.{in_cases, known_form, storey_kind, header_faul
 use Rattle.format.specs.Lines.{line_size, fields_fault, header_at}
 use Rattle.format.proofs.Shape.{shaped-end}
 use Rattle.format.proofs.LineText.{Clean}
-use Rattle.reading.specs.Survey.{form_of, members_before, storey, member, shape, header_line_fault, survey_fault, first_members, survey}
-use Rattle.reading.specs.Checks.{CheckedOf}
+use Rattle.reading.specs.Survey.{Fault, form_of, members_before, storey, member, shape, header_line_fault, lines_fault, survey_fault, first_members, survey}
 use Rattle.reading.specs.Answer.{told, filled, refusal}
 use Rattle.records.specs.declared.Header.{Header}
 use Rattle.records.specs.declared.Kind.TheVariants.{B}
-use Rattle.reading.specs.declared.survey.Checked.{Checked}
+use Rattle.records.specs.declared.refusal.Refusal.{Refusal}
+use Rattle.records.specs.Refusals.{refusal_number}
 use Rattle.records.proofs.Firsts.{pick-clear, pick-both}
+use Rattle.records.proofs.Refusals.{number-positive}
 use Rattle.records.proofs.Validity as Validity
 
 pub ten-storeys : (s : List ℕ) → header_line_fault s ≡ 0 → (header_at (form_of s) s 0).count ≤ 10
@@ -64,21 +65,20 @@ pub form-found : (form : ℕ) (s : List ℕ) → known_form form ≡ true → Cl
 form-found form s k c = form-by (in_cases form) form s refl k c
 
 module _ (s : List ℕ) (srows mrows : ℕ) where
-  pub told-header : (x : ℕ) → x ≡ header_line_fault s → (x ≡ 0 → ⊥) → refusal x 1 ≡ told (survey s srows mrows)
+  pub told-header : (r : Refusal) → refusal_number r ≡ header_line_fault s → refusal (refusal_number r) 1 ≡ told (survey s srows mrows)
   unfolding survey survey_fault
-  told-header x e ne = rw (← e) (simp (ne_eqb x 0 ne))
+  told-header r e = let p = number-positive r in rw (← e) (simp (ne_eqb (refusal_number r) 0 (λ z. omega (arith, p, z))))
 
-  module _ (h : Header) (c : Checked) (z : header_line_fault s ≡ 0) (q : h ≡ header_at (form_of s) s 0) (o : CheckedOf h.form s h.count srows mrows c) where
-    fault-is : survey_fault s srows mrows ≡ record { number = c.number; line = c.line }
+  module _ (form n : ℕ) (z : 0 ≡ header_line_fault s) (f : form ≡ form_of s) (q : n ≡ (header_at (form_of s) s 0).count) (x : Fault) (o : x ≡ lines_fault form s srows mrows n) where
+    fault-is : survey_fault s srows mrows ≡ x
     unfolding survey_fault
-    fault-is = let k = rw (q, form-is (form_of s) s 0) at o.fault in rw z (sym k)
+    fault-is = rw (← z) (sym (rw (f, q) at o))
 
-    pub told-later : (c.number ≡ 0 → ⊥) → refusal c.number c.line ≡ told (survey s srows mrows)
+    pub told-later : (x.number ≡ 0 → ⊥) → refusal x.number x.line ≡ told (survey s srows mrows)
     unfolding survey
-    told-later ne = rw fault-is (simp (ne_eqb c.number 0 ne))
+    told-later ne = rw fault-is (simp (ne_eqb x.number 0 ne))
 
-    pub told-accepted : c.number ≡ 0 → filled h h.count c.members ≡ told (survey s srows mrows)
+    pub told-accepted : (h : Header) (m : ℕ) → h ≡ header_at (form_of s) s 0 → m ≡ members_before form s n → x.number ≡ 0 → filled h n m ≡ told (survey s srows mrows)
     unfolding survey
-    told-accepted y =
-        let k = rw (q, form-is (form_of s) s 0) at (o.members y) in
-        rw (q, k, fault-is, eq-eqb _ _ y, length-listed (storey (form_of s) s) (header_at (form_of s) s 0).count, length-members (form_of s) s (header_at (form_of s) s 0).count)
+    told-accepted h m g k y =
+        rw (fault-is, eq-eqb _ _ y, g, k, f, q, length-listed (storey (form_of s) s) (header_at (form_of s) s 0).count, length-members (form_of s) s (header_at (form_of s) s 0).count)

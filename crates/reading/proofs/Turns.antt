@@ -7,7 +7,7 @@ use lib.Dec.{eqb, eqb-suc-zero}
 use borrow.Author.Tests.{ne_eqb}
 use Rattle.records.specs.Notation.{pick, first}
 use Rattle.reading.specs.Survey.{no_fault, at-line, or_else, first_fault}
-use Rattle.reading.specs.declared.survey.Fault.{Fault}
+use Rattle.reading.specs.Survey.{Fault}
 use Rattle.records.proofs.Firsts.{first-none, first_next, first-kept, step_clear}
 
 abbrev pub Plain : Fault → Type 0

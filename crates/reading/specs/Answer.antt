@@ -1,18 +1,21 @@
 -- The answer of the reading call, case by case in the paper's numbers (document 01, "Refusals as returned").
-use Rattle.std.specs.Prelude.{◌++◌}
+use Rattle.std.specs.Prelude.{◌++◌, Result, Ok, Err}
 use Rattle.records.specs.Notation.{ℕ, List, length, drop}
 use Rattle.records.specs.declared.{Header.Header, Storey.Storey, Member.Member}
-use Rattle.reading.specs.Survey.{Outcome, accepted, refused}
-use Rattle.reading.specs.declared.survey.ReadAnswer.{ReadAnswer, TheVariants.Accepted, TheVariants.Refused}
+use Rattle.records.specs.declared.refusal.Refusal.{Refusal}
+use Rattle.records.specs.Refusals.{refusal_number}
+use Rattle.reading.specs.Survey.{Fault, no_fault, Outcome, accepted, refused}
+use Rattle.reading.specs.declared.survey.Filled.{Filled}
+use Rattle.reading.specs.declared.survey.LineRefusal.{LineRefusal}
 
 -- what an answer tells: the header, with the numbers of rows filled; or a refusal, by its number, with its line
 pub data Told : Type 0 where
   filled : Header → ℕ → ℕ → Told
   refusal : ℕ → ℕ → Told
 
-abbrev pub tells : ReadAnswer → Told
-tells (Accepted h storeys members) = filled h storeys members
-tells (Refused n line) = refusal n line
+abbrev pub tells : Result Filled LineRefusal → Told
+tells (Ok a) = filled a.header a.storeys a.members
+tells (Err r) = refusal (refusal_number r.refusal) r.line
 
 -- what is told of an outcome
 abbrev pub told : Outcome → Told
@@ -37,3 +40,13 @@ form_told (refusal n line) = 1
 abbrev pub storeys_told : Told → ℕ
 storeys_told (filled h storeys members) = storeys
 storeys_told (refusal n line) = 0
+
+-- the refusal of an answer with its line
+abbrev pub found : {A : Type 0} → Result A LineRefusal → Fault
+found (Ok a) = no_fault
+found (Err r) = record { number = refusal_number r.refusal; line = r.line }
+
+-- an outcome of a line's checks, its refusal with the line
+abbrev pub lined : {A : Type 0} → ℕ → Result A Refusal → Result A LineRefusal
+lined line (Ok a) = Ok a
+lined line (Err r) = Err (record { refusal = r; line = line })

@@ -5,7 +5,6 @@ use Rattle.records.specs.Notation.{ℕ, zero, suc, List, [], ltb, eqb, length, d
 use Rattle.records.specs.declared.{Storey.Storey, Member.Member, Kind.Kind, Kind.TheVariants.B, Kind.TheVariants.S4, Kind.TheVariants.D}
 use Rattle.records.specs.Records.{Survey, survey_of, fields, storey_kind, member_kind, header_fault, sides_fault, repeated}
 use Rattle.format.specs.Lines.{line_size, line_end, shaped, value_at, fields_fault, header_at, storey_at, case_start, case_lines, member_size, member_at}
-use Rattle.reading.specs.declared.survey.Fault.{Fault}
 
 -- "the length of the first S line tells the form of the whole file": that of an S line with four shears, or else the old form
 unfoldable pub form_of : List ℕ → ℕ
@@ -67,6 +66,10 @@ unfoldable pub case_line_fault : List ℕ → ℕ → ℕ → ℕ
 case_line_fault s at c = in_order (shape D s at ∷ fields_fault D s at ∷ case_number_fault (value_at D s at 0) c ∷ [])
 
 -- a refusal with its line; number 0 is none
+pub record Fault : Type 0 where
+  pub number : ℕ
+  pub line : ℕ
+
 abbrev pub no_fault : Fault
 no_fault = record { number = 0; line = 0 }
 

@@ -1,11 +1,17 @@
 -- Laws of tests, and of `every` and `any`: tests over the numbers below a bound.
-use Prim.Native.Nat.{ℕ, zero, suc, ◌+◌, ◌<◌}
+use Prim.Native.Nat.{ℕ, zero, suc, ◌+◌, ◌≤◌, ◌<◌}
 use native.Mathlib.Omega.{arith}
 use native.Mathlib.Nat.{not-suc-le-zero, eq-or-lt_of_le, le_of_suc-le-suc}
 use native.Mathlib.Numerals.{add-one}
 use mathlib.Core.Bool.{Bool, true, false, ◌&&◌, and-true, and-false, and_assoc, or-true}
 use mathlib.Core.Logic.{⊎_elim}
-use mathlib.Core.Path.{◌≡◌, refl, sym}
+use mathlib.Core.List.{List}
+use mathlib.Core.Path.{◌≡◌, refl, ap, sym, ◌∙◌}
+use lib.ListN.{length, take, get_or}
+use lib.Seq.{take-length}
+use Rattle.std.specs.List.{list_all, range_with_len}
+use Rattle.std.proofs.lemmas.List.Folds.{list_all_more}
+use Rattle.std.proofs.lemmas.List.FromFn.{length-range_with_len, get_or-range_with_len}
 use Rattle.records.specs.Notation.{every_below, any_below}
 
 pub and_left : (a b : Bool) → (a && b) ≡ true → a ≡ true
@@ -74,6 +80,22 @@ module _ (p : ℕ → Bool) where
   pub every-four : p 0 ≡ true → every_below p 4 ≡ ((p 1 && p 2) && p 3)
   unfolding every_below
   every-four e = rw e
+
+  -- of the first k elements of a list, whose j-th the test q takes as p does j
+  every-taken : {A : Type 0} (q : A → Bool) (xs : List A) (d : A) → ((j : ℕ) → j < length xs → q (get_or xs j d) ≡ p j) → (k : ℕ) → k ≤ length xs → list_all q (take k xs) ≡ every_below p k
+  unfolding every_below
+  every-taken q xs d same zero h = refl
+  every-taken q xs d same (suc k) h =
+      rw add-one at (list_all_more q xs k d (omega arith)) ∙ rw (every-taken q xs d same k (omega arith), same k (omega arith)) refl
+
+  -- of all of them
+  pub every-element : {A : Type 0} (q : A → Bool) (xs : List A) (d : A) (n : ℕ) → length xs ≡ n → ((j : ℕ) → j < n → q (get_or xs j d) ≡ p j) → list_all q xs ≡ every_below p n
+  every-element q xs d n e same =
+      rw (take-length xs, e) at (every-taken q xs d (λ j h. same j (omega arith)) (length xs) (omega arith))
+
+  -- of the numbers of a range
+  pub every-listed : (n : ℕ) → list_all p (range_with_len 0 n) ≡ every_below p n
+  every-listed n = every-element p (range_with_len 0 n) 0 n (length-range_with_len 0 n) (λ j h. rw (get_or-range_with_len 0 n j 0 h) (ap p (omega arith)))
 
   -- two tests that say the same of each number
   pub every-same : (q : ℕ → Bool) (n : ℕ) → ((j : ℕ) → j < n → p j ≡ q j) → every_below p n ≡ every_below q n

@@ -5,7 +5,7 @@ use native.Mathlib.Nat.{not-suc-le-zero, eq-or-lt_of_le, le_of_suc-le-suc}
 use native.Mathlib.Numerals.{add-one}
 use mathlib.Core.Bool.{Bool, true, false}
 use mathlib.Core.Logic.{⊎_elim}
-use mathlib.Core.Path.{◌≡◌, refl}
+use mathlib.Core.Path.{◌≡◌, refl, sym, ◌∙◌}
 use lib.Dec.{eqb, eqb-suc-zero}
 use borrow.Author.Tests.{eq-eqb, ne_eqb, eqb-true, eqb-false}
 use mathlib.Core.List.{List, [], ◌∷◌, ◌++◌}
@@ -88,3 +88,15 @@ nested true a b later e = rw (last_of b)
 nested false a b later e = rw e
 
 -- ---- the answer
+
+-- ---- a loop over refusals: one that stops it, and none
+abbrev pub first_fault : (ℕ → ℕ) → ℕ → ℕ
+first_fault = first 0 (λ r. r)
+
+pub first-stops : (f : ℕ → ℕ) (n j r : ℕ) → first_fault f j ≡ 0 → j < n → r ≡ f j → 0 < r → r ≡ first_fault f n
+first-stops f n j r e h g p =
+    let k : first_fault f (j + 1) ≡ r = first_next 0 (λ r. r) f j e ∙ sym g in
+    sym (first-kept 0 (λ r. r) f (j + 1) n (omega arith) (λ z. let q : ⊥ = omega (arith, k, z) in absurd q) ∙ k)
+
+pub first-goes_on : (f : ℕ → ℕ) (j : ℕ) → first_fault f j ≡ 0 → 0 ≡ f j → first_fault f (j + 1) ≡ 0
+first-goes_on f j e g = first_next 0 (λ r. r) f j e ∙ sym g

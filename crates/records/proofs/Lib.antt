@@ -2,6 +2,10 @@ pub mod Below
 pub mod Firsts
 pub mod Allowing
 pub mod Cases
+pub mod Refusals
+pub mod Forms
+pub mod OtherForms
+pub mod Structs
 pub mod Validity
 pub mod Lines
-pub mod Structs
+pub mod Made

@@ -5,16 +5,16 @@ use native.Mathlib.Nat.{le_of_suc-le-suc, not-suc-le-zero}
 use mathlib.Core.Bool.{Bool, true, false, ◌&&◌, and-true, and-false}
 use mathlib.Core.List.{List, [], ◌∷◌}
 use mathlib.Core.Path.{◌≡◌, refl, sym, ap, ◌∙◌}
-use lib.Dec.{leb, eqb}
+use lib.Dec.{leb, ltb, eqb}
 use lib.ListN.{length, get_or, get_or-append}
 use lib.Seq.{get_or-append-add}
-use borrow.Author.Tests.{le-leb, lt-ltb, eq-eqb, eqb-true}
+use borrow.Author.Tests.{le-leb, lt-ltb, eq-eqb}
 use Rattle.records.specs.Notation.{pick, every_below}
-use Rattle.records.specs.declared.{LoadCase.LoadCase, Member.Member, MemberCase.MemberCase, Kind.Kind, Kind.TheVariants.B, Kind.TheVariants.S, Kind.TheVariants.M, Kind.TheVariants.S4, Kind.TheVariants.M4, Kind.TheVariants.D}
-use Rattle.records.specs.Records.{never, allows, ranges, fields, in_range, line_in_range, in_cases, known_form, case_count, storey_kind, member_kind, no_case, case_of, with_case, in_case, member_values, case_values, member_case_values, header_values, storey_values, header_by, storey_by, case_by, old_cases, member_by, sides_fault, case_fits, header_fault, storey_fault, member_fault, is_blank}
+use Rattle.records.specs.declared.{LoadCase.LoadCase, Member.Member, Kind.Kind, Kind.TheVariants.B, Kind.TheVariants.S, Kind.TheVariants.M, Kind.TheVariants.S4, Kind.TheVariants.M4, Kind.TheVariants.D}
+use Rattle.records.specs.Records.{never, allows, ranges, fields, in_range, line_in_range, in_cases, known_form, case_count, storey_kind, member_kind, case_of, with_case, in_case, member_values, case_values, member_case_values, header_values, storey_values, header_by, storey_by, case_by, old_cases, member_by, sides_fault, case_fits, header_fault, storey_fault, member_fault, is_blank}
 use Rattle.records.proofs.Allowing.{member-field, case-field, three-fields}
-use Rattle.records.proofs.Below.{both_ways, every-at, every_of, every-add, every-four, every-fails}
-use Rattle.records.proofs.Cases.{get_d_any, blank_none, cases-least, cases-most}
+use Rattle.records.proofs.Below.{both_ways, every-at, every_of, every-add, every-fails, every-same}
+use Rattle.records.proofs.Cases.{blank_none, cases-least, cases-most}
 use Rattle.records.proofs.Validity.{Ranged, case-in-range}
 
 -- ---- the line of a member in one case, beside its M line and its D line in the form of four cases
@@ -129,39 +129,30 @@ member-cases-good form f g e r q = fits_all form m refl fits
     fits (suc (suc (suc zero))) h = rw e (line 3 h)
     fits (suc (suc (suc (suc c)))) h = let z : ⊥ = omega arith in absurd z
 
--- ---- the check of a member by its first case and then the others
-first-unfit : (form : ℕ) (m : Member) → length m.cases ≡ 4 → case_fits form m 0 ≡ false → false ≡ (eqb (length m.cases) 4 && every_below (case_fits form m) 4)
-first-unfit form m four e = rw (eq-eqb (length m.cases) 4 four, every-fails (case_fits form m) 4 0 (omega arith) e)
+-- ---- the check of a member by the fields that are the same in each case, and by each case's own
+abbrev pub own_fits : ℕ → Member → ℕ → Bool
+own_fits form m c = pick (ltb c (case_count form)) (line_in_range D (1 ∷ case_values (case_of c m))) (is_blank (case_of c m))
 
--- d is what the code's array of cases has past its end
-module _ (form : ℕ) (m : Member) (four : length m.cases ≡ 4) (d : LoadCase) where
-  same : (c : ℕ) → c < 4 → get_or m.cases c d ≡ case_of c m
-  same c h = get_d_any m.cases c d no_case (omega arith)
+not-true : (t : Bool) → (t ≡ true → ⊥) → t ≡ false
+not-true true f = absurd (f refl)
+not-true false f = refl
 
-  pub first_fits : (t : Bool) (w : MemberCase) → w ≡ with_case m (get_or m.cases 0 d) → line_in_range M (member_case_values w) ≡ t → case_fits form m 0 ≡ t
-  first_fits t w e f =
-      rw (lt-ltb 0 (case_count form) (cases-least form))
-      (ap (λ k. line_in_range M (member_case_values k)) (sym (e ∙ ap (with_case m) (same 0 (omega arith)))) ∙ f)
+module _ (form : ℕ) (m : Member) where
+  fits-alone : (c : ℕ) → Ranged M4 (member_values m) → case_fits form m c ≡ own_fits form m c
+  fits-alone c r =
+      let e : line_in_range M (member_case_values (in_case c m)) ≡ line_in_range D (1 ∷ case_values (case_of c m)) = both_ways _ _ (case-line m (case_of c m) 1 (omega arith) (omega arith)) (lines_join m (case_of c m) 1 r) in
+      ap (λ b. pick (ltb c (case_count form)) b (is_blank (case_of c m))) e
 
-  in_four : case_fits form m 0 ≡ true → form ≡ 2 → ((line_in_range D (1 ∷ case_values (get_or m.cases 1 d)) && line_in_range D (1 ∷ case_values (get_or m.cases 2 d))) && line_in_range D (1 ∷ case_values (get_or m.cases 3 d))) ≡ (eqb (length m.cases) 4 && every_below (case_fits form m) 4)
-  in_four e f =
-      let g : Ranged M (member_case_values (in_case 0 m)) = rw f at e in
-      let alone : (c : ℕ) → line_in_range M (member_case_values (in_case c m)) ≡ line_in_range D (1 ∷ case_values (case_of c m)) = λ c. case-alone m (case_of 0 m) (case_of c m) g in
-      rw (same 1 (omega arith), same 2 (omega arith), same 3 (omega arith), ← alone 1, ← alone 2, ← alone 3, eq-eqb (length m.cases) 4 four, every-four (case_fits form m) e, f)
+  shared-unfit : line_in_range M4 (member_values m) ≡ false → every_below (case_fits form m) 4 ≡ false
+  shared-unfit e =
+      let n : line_in_range M (member_case_values (in_case 0 m)) ≡ false = not-true _ (λ r. false_true (sym e ∙ member-line m (case_of 0 m) r)) in
+      let f : case_fits form m 0 ≡ false = rw (lt-ltb 0 (case_count form) (cases-least form)) n in
+      every-fails (case_fits form m) 4 0 (omega arith) f
+    where
+      false_true : ◌≡◌ {A = Bool} false true → ⊥
+      false_true h = let z : ◌≡◌ {A = ℕ} 0 1 = cc in absurd (omega arith)
 
-  in_one : case_fits form m 0 ≡ true → in_cases form ≡ false → ((is_blank (get_or m.cases 1 d) && is_blank (get_or m.cases 2 d)) && is_blank (get_or m.cases 3 d)) ≡ (eqb (length m.cases) 4 && every_below (case_fits form m) 4)
-  in_one e f = rw (same 1 (omega arith), same 2 (omega arith), same 3 (omega arith), eq-eqb (length m.cases) 4 four, every-four (case_fits form m) e, f)
-
-  -- the cases of a member fit where those after the first do, as the form has them, and the first does
-  abbrev pub later_fit : Bool
-  later_fit =
-      pick (in_cases form) ((line_in_range D (1 ∷ case_values (get_or m.cases 1 d)) && line_in_range D (1 ∷ case_values (get_or m.cases 2 d))) && line_in_range D (1 ∷ case_values (get_or m.cases 3 d)))
-      ((is_blank (get_or m.cases 1 d) && is_blank (get_or m.cases 2 d)) && is_blank (get_or m.cases 3 d))
-
-  with_first : case_fits form m 0 ≡ true → (b : Bool) → in_cases form ≡ b → later_fit ≡ (eqb (length m.cases) 4 && every_below (case_fits form m) 4)
-  with_first e true f = rw f (in_four e (eqb-true form 2 f))
-  with_first e false f = rw f (in_one e f)
-
-  pub all_fit : (t : Bool) → case_fits form m 0 ≡ t → (later_fit && t) ≡ (eqb (length m.cases) 4 && every_below (case_fits form m) 4)
-  all_fit true e = and-true later_fit ∙ with_first e (in_cases form) refl
-  all_fit false e = and-false later_fit ∙ first-unfit form m four e
+  -- both together, by what each comes to
+  pub fits-both : length m.cases ≡ 4 → (s t : Bool) → s ≡ every_below (own_fits form m) 4 → t ≡ line_in_range M4 (member_values m) → (s && t) ≡ (eqb (length m.cases) 4 && every_below (case_fits form m) 4)
+  fits-both four s true e f = rw (eq-eqb (length m.cases) 4 four, every-same (case_fits form m) (own_fits form m) 4 (λ c h. fits-alone c (sym f))) (and-true s ∙ e)
+  fits-both four s false e f = and-false s ∙ sym (rw (eq-eqb (length m.cases) 4 four) (shared-unfit (sym f)))

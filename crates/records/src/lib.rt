@@ -2,17 +2,16 @@
 
 #![tactic(auto)]
 
-pub mod first;
+pub mod by_case;
+pub mod form;
 pub mod numbers;
+pub mod refusal;
 
 // What stands for a force of 0 in N_D and N_K.
 pub const ZERO_FORCE: u64 = 20_000_000;
 
 // How many load cases a record holds.
 pub const CASES: usize = 4;
-
-// The form of four load cases; the old form is 1.
-pub const FOUR_CASES: u64 = 2;
 
 // How many fields a line has. The numbers of a line stand in an array that holds those of any.
 pub const HEADER_FIELDS: usize = 6;
@@ -100,7 +99,7 @@ pub struct Member {
 
 // What one load case brings to a member: fields 19 to 26 of an M line in the old form, a D line in the form of four cases.
 #[repr(C)]
-#[derive(Clone, Copy)]
+#[derive(Clone, Copy, PartialEq)]
 pub struct LoadCase {
     // N_K, counted from -20,000,000
     pub nk: u64,

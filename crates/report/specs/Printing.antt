@@ -1,22 +1,16 @@
--- What the loops over rows carry on, and the refusals of the report call: for the proofs of inner functions.
-use Rattle.std.specs.Prelude.{ℕ, ◌+◌, ◌*◌, ◌≤◌, false, ◌≡◌, eqb}
+-- The lines of a sheet's storeys, and how many bytes its lines take.
+use Rattle.std.specs.Prelude.{ℕ, ◌+◌, ◌*◌, List, length}
+use Rattle.checks.specs.Rows.{Survey}
+use Rattle.report.specs.Sheet.{storeys_lines}
 use Rattle.columns.specs.Line.{sheet_line_size}
 use Rattle.records.specs.Notation.{pick}
 use Rattle.records.specs.Records.{in_cases, case_count}
-use Rattle.totals.specs.Totals.{no_tally}
-use Rattle.report.specs.declared.printed.PrintedStoreys.{PrintedStoreys}
-use Rattle.report.specs.declared.printed.PrintedMembers.{PrintedMembers}
-use Rattle.report.specs.Sheet.{length_fault}
 
--- before the first storey
-abbrev pub front : PrintedStoreys
-front = record { at = 0; risky = false }
+-- the lines of the storeys of a survey
+abbrev pub sheet_storeys : Survey → List ℕ
+sheet_storeys a = storeys_lines a.header.form a.header.knowledge a.storeys a.members 0 (length a.storeys)
 
--- before the first member of a storey
-abbrev pub begun_at : ℕ → PrintedMembers
-begun_at p = record { at = p; tally = no_tally }
-
--- how many bytes a line takes: `M` has 7 fields, `S` 6, in four cases one more each; `B` has 2
+-- a line: `M` has 7 fields, `S` 6, in four cases one more each; `B` has 2
 abbrev pub member_line_size : ℕ → ℕ
 member_line_size form = sheet_line_size (pick (in_cases form) 8 7)
 
@@ -33,11 +27,3 @@ case_size form storeys members = member_line_size form * members + storey_line_s
 -- a sheet's size, by the rows that it prints
 abbrev pub sheet_size : ℕ → ℕ → ℕ → ℕ
 sheet_size form storeys members = case_count form * case_size form storeys members + building_line_size
-
--- a survey that is not refused has few rows
-abbrev pub Few : ℕ → ℕ → ℕ → Type 0
-Few first storeys members = first ≡ 0 → (storeys ≤ 10) × (members ≤ 2_000)
-
--- the refusal of the records, then 9
-abbrev pub fault_by : ℕ → ℕ → ℕ → ℕ → ℕ → ℕ
-fault_by first form storeys members room = pick (eqb first 0) (length_fault (sheet_size form storeys members) room) first

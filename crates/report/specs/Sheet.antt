@@ -1,14 +1,13 @@
 -- The printed sheet and the report call (document 01, "The printed sheet", "Refusals as returned"; document 02, N3): any survey, and a buffer of any length. A load
 -- case l is counted from 0.
 use Rattle.records.specs.Records.{in_cases, case_count, shear_of, in_case}
-use Rattle.std.specs.Prelude.{◌+◌, ◌∷◌, ◌++◌}
+use Rattle.std.specs.Prelude.{◌+◌, ◌∷◌, ◌++◌, Result, Ok, Err}
 use Rattle.records.specs.Notation.{ℕ, zero, suc, Bool, List, [], leb, eqb, length, drop, pick, in_order}
 use Rattle.checks.specs.Rows.{Storey, Member, Survey, storey_in, members_of, records_fault}
 use Rattle.members.specs.{declared.finding.Finding.Finding, Class.code, Finding.finding, Finding.flag, Finding.Returned, Finding.found, Finding.refused}
 use Rattle.totals.specs.declared.StoreyFinding.{StoreyFinding}
 use Rattle.storeys.specs.{Storey.published_rules, Storey.meets_wall_share, Storey.finding_in, Building.tilted, Building.building_risky}
 use Rattle.columns.specs.Line.{line}
-use Rattle.report.specs.declared.ReportAnswer.{ReportAnswer, TheVariants.Written, TheVariants.Refused}
 
 -- "case number added as the first field" (document 02, N3); in the old form none
 abbrev pub case_first : ℕ → ℕ → List ℕ → List ℕ
@@ -70,13 +69,14 @@ length_fault size room = pick (leb size room) 0 9
 unfoldable pub report_fault : Survey → ℕ → ℕ
 report_fault a room = in_order (records_fault a ∷ length_fault (length (sheet a)) room ∷ [])
 
-unfoldable pub report_answer : Survey → ℕ → ReportAnswer
-report_answer a room = pick (eqb (report_fault a room) 0) (Written (length (sheet a))) (Refused (report_fault a room))
+-- the sheet's length, or the number of the first refusal
+unfoldable pub report_answer : Survey → ℕ → Result ℕ ℕ
+report_answer a room = pick (eqb (report_fault a room) 0) (Ok (length (sheet a))) (Err (report_fault a room))
 
 -- what each case of the answer says: "the report gives its length"
-abbrev pub returned_report : ReportAnswer → Returned
-returned_report (Written n) = found (n ∷ [])
-returned_report (Refused n) = refused n
+abbrev pub returned_report : Result ℕ ℕ → Returned
+returned_report (Ok n) = found (n ∷ [])
+returned_report (Err n) = refused n
 
 -- what the paper returns
 abbrev pub report_returned : Survey → ℕ → Returned

@@ -2,7 +2,7 @@
 
 #![tactic(auto)]
 
-pub mod printed;
+mod printed;
 pub mod refusal_line;
 pub mod sheet;
 
@@ -16,16 +16,3 @@ pub const MEMBER_CASE_LINE_SIZE: usize = 2 + 12 * 8;
 pub const STOREY_CASE_LINE_SIZE: usize = 2 + 12 * 7;
 
 pub const BUILDING_LINE_SIZE: usize = 2 + 12 * 2;
-
-// The sheet's length, or the refusal by its number.
-#[derive(Clone, Copy)]
-pub enum ReportAnswer {
-    Written(usize),
-    Refused(u64),
-}
-
-// The answer of the call, in a struct of one field.
-#[derive(Clone, Copy)]
-pub struct ReportJudgment {
-    pub answer: ReportAnswer,
-}

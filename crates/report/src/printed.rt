@@ -1,243 +1,129 @@
-// One record's line, by value: what the loops over rows print of each, and what they carry on.
-ghost use Rattle.std.specs.Prelude.{◌||◌, ◌≡◌, ◌+◌, ◌≤◌, ◌<◌, length};
-ghost use Rattle.records.specs.Records.{case_count, shear_of, in_case};
-ghost use Rattle.members.specs.Finding.{finding};
+// The lines of a storey in one load case, and the building's.
+ghost use Rattle.std.specs.Prelude.{◌||◌, ◌≡◌, ◌+◌, ◌<◌, length, drop};
+ghost use Rattle.records.specs.Notation.{pick};
+ghost use Rattle.records.specs.Forms.{form_number};
+ghost use Rattle.records.specs.Records.{in_cases, case_count, shear_of};
+ghost use Rattle.storeys.specs.Storey.{published_rules, case_risky};
 ghost use Rattle.storeys.specs.Building.{tilted};
-ghost use Rattle.storeys.specs.Tally.{with_member, AddsUp};
-ghost use Rattle.totals.specs.Totals.{found_by};
-ghost use Rattle.columns.specs.Bytes.{stamped};
-ghost use Rattle.report.specs.Sheet.{member_line, storey_line, building_line};
-ghost use Rattle.report.specs.Printing.{front, begun_at, fault_by, Few, member_line_size, storey_line_size, building_line_size, case_size};
+ghost use Rattle.storeys.specs.Tally.{tally_of};
+ghost use Rattle.columns.specs.Writer.{HasRoom, Written};
+ghost use Rattle.report.specs.Sheet.{member_line, storey_line, building_line, member_lines, case_lines};
 
-use crate::{
-    BUILDING_LINE_SIZE, MEMBER_CASE_LINE_SIZE, MEMBER_LINE_SIZE, ReportAnswer, ReportJudgment,
-    STOREY_CASE_LINE_SIZE, STOREY_LINE_SIZE,
-};
-use columns::line::put_line;
-use members::finding::{CaseAnswer, Finding, flag, judge_case};
-use records::numbers::{case_count, in_case, shear_of};
-use records::{FOUR_CASES, Header, Member, Storey};
-use storeys::verdict::{building_risky, is_tilted};
-use totals::adding::{add_finding, no_tally};
-use totals::finding::finding_of;
+use columns::writer::ColumnWriter;
+use members::finding::Finding;
+use members::good_case::GoodCase;
+use records::Header;
+use records::form::Form;
+use storeys::building::is_tilted;
+use storeys::good_storey::GoodStorey;
+use storeys::storey::walls_suffice;
 use totals::{StoreyFinding, Tally};
 
-// After some storeys: the next place in the bytes, and whether one of them is Risky.
+// A good storey in one load case of its form, counted from 0.
 #[derive(Clone, Copy)]
-pub(crate) struct PrintedStoreys {
-    pub at: usize,
-    pub risky: bool,
+pub(crate) struct StoreyCase<'a> {
+    pub good: GoodStorey<'a>,
+    pub case: usize,
+    ghost in_form: { case < case_count (form_number good.form) },
 }
 
-// After some members of a storey: the next place in the bytes, and their totals.
-#[derive(Clone, Copy)]
-pub(crate) struct PrintedMembers {
-    pub at: usize,
-    pub tally: Tally,
-}
-
-// Before the first storey.
-pub(crate) fn no_storey() -> PrintedStoreys
-    ensures { result ≡ front }
-{
-    PrintedStoreys {
-        at: 0,
-        risky: false,
+impl StoreyCase<'_> {
+    // The fields of a line: the old form leaves out the first, the case number.
+    fn fields<'v>(&self, values: &'v [u64]) -> &'v [u64]
+        requires { 0 < length values.now }
+        ensures { result.now ≡ pick (in_cases (form_number self.now.good.form)) values.now (drop 1 values.now) }
+    {
+        match self.good.form {
+            Form::Old => &values[1..],
+            Form::FourCases => values,
+        }
     }
-}
 
-// Before the first member of a storey.
-pub(crate) fn no_member(p: PrintedStoreys) -> PrintedMembers
-    ensures { result ≡ begun_at p.at }
-{
-    let tally = no_tally();
-    PrintedMembers { at: p.at, tally }
-}
+    // The case number as it is printed.
+    fn case_number(&self) -> u64
+        ensures { result ≡ self.now.case + 1 }
+    {
+        self.case as u64 + 1
+    }
 
-fn put_finding(out: &mut [u8], at: usize, form: u64, c: usize, number: u64, f: Finding) -> usize
-    requires { (c < case_count form) × (at + member_line_size form ≤ length out.old) }
-    ensures value { result ≡ at + member_line_size form }
-    ensures out_after { out.new ≡ stamped out.old at (member_line form c number f) }
-{
-    let class = f.class;
-    let code = class.code();
-    let over = flag(f.over);
-    if form == FOUR_CASES {
+    // The `M` line of a member with this number.
+    #[tactic(auto, using(crate::proofs::Printing::line_put, crate::proofs::Printing::flag_is), unfolding(crate::specs::Sheet::member_line))]
+    fn put_member_line(&self, writer: &mut ColumnWriter, number: u64, f: &Finding)
+        requires { HasRoom (length (member_line (form_number self.now.good.form) self.now.case number f.now)) writer.old }
+        ensures { Written (member_line (form_number self.now.good.form) self.now.case number f.now) writer.old writer.new }
+    {
         let values = [
-            (c + 1) as u64,
+            self.case_number(),
             number,
-            code,
+            f.class.code(),
             f.m.0,
             f.m_limit.0,
             f.rotation.0,
             f.rotation_limit.0,
-            over,
+            u64::from(f.over),
         ];
-        return put_line(out, at, b"M", &values);
+        writer.line(b"M", self.fields(&values));
     }
-    let values = [
-        number,
-        code,
-        f.m.0,
-        f.m_limit.0,
-        f.rotation.0,
-        f.rotation_limit.0,
-        over,
-    ];
-    put_line(out, at, b"M", &values)
-}
 
-// A good member, judged once in case c with k and the 0.40 condition of its storey: its line, and its part of the totals.
-pub(crate) fn put_member(
-    out: &mut [u8],
-    r: PrintedMembers,
-    form: u64,
-    k: u64,
-    met: bool,
-    c: usize,
-    m: Member,
-) -> PrintedMembers
-    requires { AddsUp r.tally k (in_case c m) × (c < case_count form) × (r.at + member_line_size form ≤ length out.old) }
-    ensures at_value { result.at ≡ r.at + member_line_size form }
-    ensures tally_value { result.tally ≡ with_member r.tally k met (in_case c m) }
-    ensures out_after { out.new ≡ stamped out.old r.at (member_line form c m.number (finding k met (in_case c m))) }
-{
-    let one = in_case(m, c);
-    match judge_case(k, met, one) {
-        CaseAnswer::Judged(f) => {
-            let t = r.tally;
-            let tally = add_finding(t, f, one);
-            let at = put_finding(out, r.at, form, c, m.number, f);
-            PrintedMembers { at, tally }
-        }
-        CaseAnswer::Refused(_) => r,
-    }
-}
-
-fn put_storey(
-    out: &mut [u8],
-    at: usize,
-    form: u64,
-    c: usize,
-    number: u64,
-    f: StoreyFinding,
-) -> usize
-    requires { (c < case_count form) × (at + storey_line_size form ≤ length out.old) }
-    ensures value { result ≡ at + storey_line_size form }
-    ensures out_after { out.new ≡ stamped out.old at (storey_line form c number f) }
-{
-    let risky = flag(f.risky);
-    if form == FOUR_CASES {
+    // The `S` line of the storey.
+    #[tactic(auto, using(crate::proofs::Printing::line_put, crate::proofs::Printing::flag_is), unfolding(crate::specs::Sheet::storey_line))]
+    fn put_storey_line(&self, writer: &mut ColumnWriter, f: &StoreyFinding)
+        requires { let g = self.now.good in HasRoom (length (storey_line (form_number g.form) self.now.case g.storey.now.number f.now)) writer.old }
+        ensures { let g = self.now.good in Written (storey_line (form_number g.form) self.now.case g.storey.now.number f.now) writer.old writer.new }
+    {
         let values = [
-            (c + 1) as u64,
-            number,
+            self.case_number(),
+            self.good.storey.number,
             f.axial_total,
             f.members,
             f.over_shear,
             f.shear,
-            risky,
+            u64::from(f.risky),
         ];
-        return put_line(out, at, b"S", &values);
+        writer.line(b"S", self.fields(&values));
     }
-    let values = [
-        number,
-        f.axial_total,
-        f.members,
-        f.over_shear,
-        f.shear,
-        risky,
-    ];
-    put_line(out, at, b"S", &values)
+
+    // The members, each judged once with the 0.40 condition: their lines and their totals.
+    fn put_members(&self, writer: &mut ColumnWriter, met: bool) -> Tally
+        requires { let g = self.now.good in HasRoom (length (member_lines (form_number g.form) g.level.hundredths met self.now.case g.members.now)) writer.old }
+        ensures tally { let g = self.now.good in result ≡ tally_of g.level.hundredths met self.now.case g.members.now }
+        ensures written { let g = self.now.good in Written (member_lines (form_number g.form) g.level.hundredths met self.now.case g.members.now) writer.old writer.new }
+    {
+        let mut tally = Tally::none();
+        for m in self.good.members {
+            let one = GoodCase {
+                case: m.in_case(self.case),
+                level: self.good.level,
+            };
+            let finding = one.find(met);
+            self.put_member_line(writer, m.number, &finding);
+            tally = tally.with_finding(&finding, &one.case);
+        }
+        tally
+    }
+
+    // The members' lines, then the storey's. Whether it is Risky in the case.
+    pub(crate) fn put(&self, writer: &mut ColumnWriter) -> bool
+        requires { let g = self.now.good in HasRoom (length (case_lines (form_number g.form) g.level.hundredths g.storey.now g.members.now self.now.case)) writer.old }
+        ensures risky { let g = self.now.good in result ≡ case_risky published_rules g.level.hundredths self.now.case (shear_of self.now.case g.storey.now) g.members.now }
+        ensures written { let g = self.now.good in Written (case_lines (form_number g.form) g.level.hundredths g.storey.now g.members.now self.now.case) writer.old writer.new }
+    {
+        let shear = self.good.storey.shear(self.case);
+        let met = walls_suffice(shear, self.good.members, self.case);
+        let tally = self.put_members(writer, met);
+        let finding = StoreyFinding::of(shear, met, &tally);
+        self.put_storey_line(writer, &finding);
+        finding.risky
+    }
 }
 
-// The storey's line in case c from the totals of its members, after the lines before it.
-pub(crate) fn put_totals(
-    out: &mut [u8],
-    p: PrintedStoreys,
-    r: PrintedMembers,
-    form: u64,
-    c: usize,
-    s: Storey,
-    met: bool,
-) -> PrintedStoreys
-    requires { (c < case_count form) × (r.at + storey_line_size form ≤ length out.old) }
-    ensures at_value { result.at ≡ r.at + storey_line_size form }
-    ensures risky_value { result.risky ≡ (p.risky || (found_by (shear_of c s) met r.tally).risky) }
-    ensures out_after { out.new ≡ stamped out.old r.at (storey_line form c s.number (found_by (shear_of c s) met r.tally)) }
-{
-    let t = r.tally;
-    let f = finding_of(shear_of(s, c), met, t);
-    let at = put_storey(out, r.at, form, c, s.number, f);
-    PrintedStoreys {
-        at,
-        risky: either(p.risky, f.risky),
-    }
-}
-
-fn either(a: bool, b: bool) -> bool
-    ensures { result ≡ (a || b) }
-{
-    if a {
-        return true;
-    }
-    b
-}
-
-// The last line, after all storeys.
-pub(crate) fn put_building(out: &mut [u8], h: Header, p: PrintedStoreys) -> usize
-    requires { p.at + building_line_size ≤ length out.old }
-    ensures value { result ≡ p.at + building_line_size }
-    ensures out_after { out.new ≡ stamped out.old p.at (building_line (tilted h) (p.risky || tilted h)) }
+// The last line, after all storeys: whether some storey is Risky is given.
+#[tactic(auto, using(crate::proofs::Printing::line_put, crate::proofs::Printing::flag_is), unfolding(crate::specs::Sheet::building_line))]
+pub(crate) fn put_building(writer: &mut ColumnWriter, h: &Header, some_risky: bool)
+    requires { HasRoom (length (building_line (tilted h.now) (some_risky || tilted h.now))) writer.old }
+    ensures { Written (building_line (tilted h.now) (some_risky || tilted h.now)) writer.old writer.new }
 {
     let tilt = is_tilted(h);
-    let risky = building_risky(p.risky, tilt);
-    let values = [flag(tilt), flag(risky)];
-    put_line(out, p.at, b"B", &values)
-}
-
-// How many bytes the lines of storeys and members take in one case.
-fn case_size(form: u64, storeys: usize, members: usize) -> usize
-    requires { (storeys ≤ 10) × (members ≤ 2_000) }
-    ensures { result ≡ case_size form storeys members }
-{
-    if form == FOUR_CASES {
-        return MEMBER_CASE_LINE_SIZE * members + STOREY_CASE_LINE_SIZE * storeys;
-    }
-    MEMBER_LINE_SIZE * members + STOREY_LINE_SIZE * storeys
-}
-
-// The refusal of the records, then 9: the sheet is longer than the buffer.
-pub(crate) fn report_fault(
-    first: u64,
-    form: u64,
-    storeys: usize,
-    members: usize,
-    room: usize,
-) -> u64
-    requires { Few first storeys members }
-    ensures { result ≡ fault_by first form storeys members room }
-{
-    if first != 0 {
-        return first;
-    }
-    if case_count(form) * case_size(form, storeys, members) + BUILDING_LINE_SIZE <= room {
-        return 0;
-    }
-    9
-}
-
-pub(crate) fn refused_report(number: u64) -> ReportJudgment
-    ensures { result.answer ≡ ReportAnswer.Refused number }
-{
-    ReportJudgment {
-        answer: ReportAnswer::Refused(number),
-    }
-}
-
-pub(crate) fn written_report(length: usize) -> ReportJudgment
-    ensures { result.answer ≡ ReportAnswer.Written length }
-{
-    ReportJudgment {
-        answer: ReportAnswer::Written(length),
-    }
+    let risky = some_risky | tilt;
+    writer.line(b"B", &[u64::from(tilt), u64::from(risky)]);
 }

@@ -1,131 +1,86 @@
-// The report call, over lent rows of storeys and members. Whole records are moved here; whatever looks into one is in `printed`.
-ghost use Rattle.std.specs.Prelude.{true, ◌||◌, ◌≡◌, ◌+◌, ◌*◌, ◌≤◌, ◌<◌, length};
-ghost use Rattle.records.specs.Records.{survey_of, case_count, shear_of};
-ghost use Rattle.members.specs.Finding.{knowledge};
-ghost use Rattle.storeys.specs.Storey.{published_rules, case_risky, storey_risky, storey_call_fault};
+// The report call, over lent rows of storeys and members.
+ghost use Rattle.std.specs.Prelude.{◌≡◌, length};
+ghost use Rattle.records.specs.Forms.{form_number};
+ghost use Rattle.records.specs.Refusals.{numbered};
+ghost use Rattle.checks.specs.RowChecks.{records_of};
+ghost use Rattle.storeys.specs.Storey.{published_rules, storey_risky};
 ghost use Rattle.storeys.specs.Building.{some_risky};
-ghost use Rattle.storeys.specs.Tally.{tally_of, Rows};
-ghost use Rattle.checks.specs.Rows.{records_fault};
-ghost use Rattle.columns.specs.Bytes.{stamped};
-ghost use Rattle.report.specs.Printing.{member_line_size, case_size};
-ghost use Rattle.report.specs.Sheet.{member_lines, case_lines, storey_lines, storeys_lines, returned_report, report_returned, buffer_after};
+ghost use Rattle.columns.specs.Writer.{HasRoom, Written};
+ghost use Rattle.report.specs.Printing.{sheet_storeys};
+ghost use Rattle.report.specs.Sheet.{storey_lines, sheet, report_answer, buffer_after};
 
-use crate::ReportJudgment;
-use crate::printed::{
-    PrintedMembers, PrintedStoreys, no_member, no_storey, put_building, put_member, put_totals,
-    refused_report, report_fault, written_report,
+use crate::printed::{StoreyCase, put_building};
+use crate::{
+    BUILDING_LINE_SIZE, MEMBER_CASE_LINE_SIZE, MEMBER_LINE_SIZE, STOREY_CASE_LINE_SIZE,
+    STOREY_LINE_SIZE,
 };
-use checks::records_fault;
-use records::numbers::{case_count, count_of, form_of, shear_of};
-use records::{Header, Member, Storey};
-use storeys::storey::walls_suffice;
-use storeys::verdict::level_of;
+use checks::Survey;
+use columns::writer::ColumnWriter;
+use records::form::Form;
+use records::refusal::Refusal;
+use storeys::good_storey::GoodStorey;
+use storeys::good_survey::GoodSurvey;
 
-// The good members of a storey of a form, each judged once in case c with k and the storey's 0.40 condition: their lines and their totals.
-fn put_members(
-    out: &mut [u8],
-    p: PrintedStoreys,
-    form: u64,
-    k: u64,
-    met: bool,
-    c: usize,
-    rows: &[Member],
-) -> PrintedMembers
-    requires { (knowledge k ≡ true) × Rows form rows.now × (c < case_count form) × (p.at + member_line_size form * length rows.now ≤ length out.old) }
-    ensures at_value { result.at ≡ p.at + member_line_size form * length rows.now }
-    ensures tally_value { result.tally ≡ tally_of k met c rows.now }
-    ensures out_after { out.new ≡ stamped out.old p.at (member_lines form k met c rows.now) }
+// The lines of a good storey in each load case of its form. Whether it is Risky in some case.
+fn put_storey(writer: &mut ColumnWriter, good: &GoodStorey) -> bool
+    requires { let g = good.now in HasRoom (length (storey_lines (form_number g.form) g.level.hundredths g.storey.now g.members.now)) writer.old }
+    ensures risky { let g = good.now in result ≡ storey_risky published_rules (form_number g.form) g.level.hundredths g.storey.now g.members.now }
+    ensures written { let g = good.now in Written (storey_lines (form_number g.form) g.level.hundredths g.storey.now g.members.now) writer.old writer.new }
 {
-    let mut r = no_member(p);
-    let mut j = 0;
-    while j < rows.len() {
-        r = put_member(out, r, form, k, met, c, rows[j]);
-        j = j + 1;
+    let mut risky = false;
+    for case in 0..good.form.case_count() {
+        let storey = StoreyCase { good: *good, case };
+        risky |= storey.put(writer);
     }
-    r
+    risky
 }
 
-// The lines of a good storey in case c after others: its members', then its own.
-fn put_case_lines(
-    out: &mut [u8],
-    p: PrintedStoreys,
-    form: u64,
-    k: u64,
-    c: usize,
-    s: Storey,
-    rows: &[Member],
-) -> PrintedStoreys
-    requires { (storey_call_fault k form s rows.now ≡ 0) × (c < case_count form) × (p.at + case_size form 1 (length rows.now) ≤ length out.old) }
-    ensures at_value { result.at ≡ p.at + case_size form 1 (length rows.now) }
-    ensures risky_value { result.risky ≡ (p.risky || case_risky published_rules k c (shear_of c s) rows.now) }
-    ensures out_after { out.new ≡ stamped out.old p.at (case_lines form k s rows.now c) }
+// The lines of the storeys of a good survey. Whether some storey is Risky.
+fn put_storeys(writer: &mut ColumnWriter, good: &GoodSurvey) -> bool
+    requires { HasRoom (length (sheet_storeys (records_of good.now.survey))) writer.old }
+    ensures risky { result ≡ some_risky published_rules (records_of good.now.survey) }
+    ensures written { Written (sheet_storeys (records_of good.now.survey)) writer.old writer.new }
 {
-    let met = walls_suffice(shear_of(s, c), rows, c);
-    let r = put_members(out, p, form, k, met, c, rows);
-    put_totals(out, p, r, form, c, s, met)
+    let mut risky = false;
+    for storey in good.storeys() {
+        risky |= put_storey(writer, &storey);
+    }
+    risky
 }
 
-// The lines of a good storey after others, in each case of its form.
-fn put_storey_lines(
-    out: &mut [u8],
-    p: PrintedStoreys,
-    form: u64,
-    k: u64,
-    s: Storey,
-    rows: &[Member],
-) -> PrintedStoreys
-    requires { (storey_call_fault k form s rows.now ≡ 0) × (p.at + case_count form * case_size form 1 (length rows.now) ≤ length out.old) }
-    ensures at_value { result.at ≡ p.at + case_count form * case_size form 1 (length rows.now) }
-    ensures risky_value { result.risky ≡ (p.risky || storey_risky published_rules form k s rows.now) }
-    ensures out_after { out.new ≡ stamped out.old p.at (storey_lines form k s rows.now) }
+// The sheet of a good survey.
+fn put_sheet(writer: &mut ColumnWriter, good: &GoodSurvey)
+    requires { HasRoom (length (sheet (records_of good.now.survey))) writer.old }
+    ensures { Written (sheet (records_of good.now.survey)) writer.old writer.new }
 {
-    let n = case_count(form);
-    let mut q = p;
-    let mut c = 0;
-    while c < n {
-        q = put_case_lines(out, q, form, k, c, s, rows);
-        c = c + 1;
-    }
-    q
+    let some_risky = put_storeys(writer, good);
+    put_building(writer, &good.survey.header, some_risky);
 }
 
-// The lines of the storeys of an accepted survey, from the front.
-fn put_storeys(out: &mut [u8], h: Header, storeys: &[Storey], members: &[Member]) -> PrintedStoreys
-    requires { (records_fault (survey_of h storeys.now members.now) ≡ 0) × (case_count h.form * case_size h.form (length storeys.now) (length members.now) ≤ length out.old) }
-    ensures at_value { result.at ≡ case_count h.form * case_size h.form (length storeys.now) (length members.now) }
-    ensures risky_value { result.risky ≡ some_risky published_rules (survey_of h storeys.now members.now) }
-    ensures out_after { out.new ≡ stamped out.old 0 (storeys_lines h.form h.knowledge storeys.now members.now 0 (length storeys.now)) }
+// How many bytes the sheet of a good survey takes.
+#[tactic(auto, using(crate::proofs::Called::few_rows, crate::proofs::Called::size_is))]
+fn sheet_size(good: &GoodSurvey) -> usize
+    ensures { result ≡ length (sheet (records_of good.now.survey)) }
 {
-    let form = form_of(h);
-    let k = level_of(h);
-    let mut p = no_storey();
-    let mut a = 0;
-    let mut i = 0;
-    while i < storeys.len() {
-        let s = storeys[i];
-        let b = a + count_of(s);
-        p = put_storey_lines(out, p, form, k, s, &members[a..b]);
-        a = b;
-        i = i + 1;
-    }
-    p
+    let (member_line, storey_line) = match good.form {
+        Form::Old => (MEMBER_LINE_SIZE, STOREY_LINE_SIZE),
+        Form::FourCases => (MEMBER_CASE_LINE_SIZE, STOREY_CASE_LINE_SIZE),
+    };
+    let members = good.survey.members.len();
+    let storeys = good.survey.storeys.len();
+    good.form.case_count() * (member_line * members + storey_line * storeys) + BUILDING_LINE_SIZE
 }
 
-// The report call: an accepted survey's sheet, from the front of the lent bytes.
-pub fn write_report(
-    h: Header,
-    storeys: &[Storey],
-    members: &[Member],
-    out: &mut [u8],
-) -> ReportJudgment
-    ensures answer_value { returned_report result.answer ≡ report_returned (survey_of h storeys.now members.now) (length out.old) }
-    ensures out_after { out.new ≡ buffer_after (survey_of h storeys.now members.now) out.old }
+// The report call: an accepted survey's sheet, from the front of the lent bytes; gives its length.
+pub fn write_report(survey: &Survey, out: &mut [u8]) -> Result<usize, Refusal>
+    ensures answer { numbered result ≡ report_answer (records_of survey.now) (length out.old) }
+    ensures out_after { out.new ≡ buffer_after (records_of survey.now) out.old }
 {
-    let first = records_fault(h, storeys, members);
-    let fault = report_fault(first, form_of(h), storeys.len(), members.len(), out.len());
-    if fault != 0 {
-        return refused_report(fault);
+    let good = GoodSurvey::try_from(*survey)?;
+    if out.len() < sheet_size(&good) {
+        return Err(Refusal::SheetTooLong);
     }
-    let p = put_storeys(out, h, storeys, members);
-    written_report(put_building(out, h, p))
+    let mut writer = ColumnWriter::new(out);
+    put_sheet(&mut writer, &good);
+    Ok(writer.place())
 }

@@ -17,11 +17,11 @@ use Rattle.checks.specs.Rows.{count_fault, member_rows_fault, records_fault}
 use Rattle.checks.proofs.Refusals.{None, one, rest, in-order-clear, count-clear}
 use Rattle.checks.proofs.RowLaws.{header-good}
 use Rattle.storeys.specs.Storey.{level_fault, storey_call_fault}
-use Rattle.storeys.specs.Tally.{Rows}
+use Rattle.storeys.specs.Rows.{Rows}
 
 -- ---- a survey: k is one of the two levels
-pub known-level : (h : Header) (ss : List Storey) (ms : List Member) → records_fault (survey_of h ss ms) ≡ 0 → knowledge h.knowledge ≡ true
-known-level h ss ms none = every-at (in_range B (header_values h)) 6 0 (header-ranged h (header-good h ss ms none)) (omega arith)
+pub known_level : (h : Header) (ss : List Storey) (ms : List Member) → records_fault (survey_of h ss ms) ≡ 0 → knowledge h.knowledge ≡ true
+known_level h ss ms none = every-at (in_range B (header_values h)) 6 0 (header-ranged h (header-good h ss ms none)) (omega arith)
 
 -- ---- a storey of which the call refuses nothing
 module _ (k form : ℕ) (s : Storey) (rows : List Member) (none : storey_call_fault k form s rows ≡ 0) where

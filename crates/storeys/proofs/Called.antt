@@ -1,29 +1,32 @@
 -- The call on a storey: its finding in a case from the totals, the cases together, and the order of its refusals.
-use Prim.Native.Nat.{ℕ, suc, ◌+◌, ◌*◌, ◌≤◌, ◌<◌}
+use Prim.Native.Nat.{ℕ, zero, suc, ◌+◌, ◌*◌, ◌≤◌, ◌<◌}
 use native.Mathlib.Omega.{arith}
+use mathlib.Core.Bool.{Bool, true, false, ◌&&◌, ◌||◌, or-false, or_assoc}
 use native.Mathlib.Numerals.{add-one}
-use mathlib.Core.Bool.{Bool, true, false, ◌||◌}
+use Rattle.std.specs.List.{list_any, range_with_len}
 use mathlib.Core.List.{List, [], ◌∷◌}
-use mathlib.Core.Path.{◌≡◌, refl, ap, sym, ◌∙◌}
-use lib.Dec.{eqb}
+use mathlib.Core.Path.{◌≡◌, refl, sym, ◌∙◌}
 use lib.ListN.{length}
 use borrow.Author.Tests.{ne_eqb, le-leb, le-ltb, eq-eqb}
-use Rattle.records.specs.Notation.{pick, any_below, total}
-use Rattle.records.specs.Records.{case_count, shear_of, case_of, in_case, storey_fault}
+use Rattle.records.specs.Notation.{any_below, in_order, total}
+use Rattle.records.specs.Records.{case_count, known_form, shear_of, case_of, in_case, storey_fault}
 use Rattle.records.specs.declared.Storey.{Storey}
 use Rattle.records.specs.declared.Member.{Member}
-use Rattle.records.proofs.Firsts.{in-order-last, pick-zero, pick_other}
+use Rattle.records.proofs.Firsts.{pick_other, last_of}
 use Rattle.records.proofs.Validity.{shear-most}
 use Rattle.members.specs.Class.{is_wall}
-use Rattle.checks.specs.Rows.{count_fault, member_in, member_rows_fault}
+use Rattle.checks.specs.Rows.{member_in, member_rows_fault}
 use Rattle.totals.specs.declared.StoreyFinding.{StoreyFinding}
-use Rattle.storeys.specs.declared.StoreyAnswer.{StoreyAnswer}
-use Rattle.storeys.specs.declared.StoreyAnswer.TheVariants.{Judged, JudgedCases, Refused}
+use Rattle.std.specs.Prelude.{Ok, Err}
 use Rattle.totals.specs.declared.Tally.{Tally}
 use Rattle.totals.specs.Totals.{wall_shear}
-use Rattle.storeys.specs.Storey.{published_rules, meets_wall_share, over_shear_of, risky_by_damage, case_risky, storey_risky, storey_finding, finding_in, level_fault, storey_call_fault, judged_by, storey_answer_by, returned_storey, storey_returned}
+use Rattle.storeys.specs.Storey.{published_rules, judged_by, meets_wall_share, over_shear_of, risky_by_damage, case_risky, storey_risky, storey_finding, finding_in, storey_call_fault, storey_answer_by}
 use Rattle.totals.specs.Totals.{members_most, shear_most, total_most, found_by}
-use Rattle.storeys.specs.Tally.{tally_of, Rows, cases_by, head_fault, walls_from, walls_suffice_of}
+use Rattle.storeys.specs.Rows.{Rows}
+use Rattle.storeys.specs.Tally.{tally_of, walls_from, walls_suffice_of}
+use Rattle.members.specs.Finding.{knowledge}
+use Rattle.records.specs.declared.by_case.{ByForm.TheVariants.One, ByForm.TheVariants.Four}
+use Rattle.storeys.proofs.Accepted.{storey-rows}
 use Rattle.storeys.proofs.Loops.{row-valid, pick-most}
 use Rattle.storeys.proofs.Shears.{over-shear-most}
 
@@ -61,67 +64,66 @@ module _ (form c : ℕ) (i : c < case_count form) (rows : List Member) (g : Rows
     pub found-is : (k x : ℕ) (met : Bool) (t : Tally) (f : StoreyFinding) → x ≡ shear_of c s → met ≡ walls_suffice_of c x rows → t ≡ tally_of k met c rows → f ≡ found_by x met t → f ≡ finding_in published_rules k s rows c
     found-is k x met t f p b q d = d ∙ rw (p, q) (found-by-totals k met ((rw p at b) ∙ walls-are))
 
+-- ---- a test of the numbers below n, listed
+any-from : (p : ℕ → Bool) (a n : ℕ) → any_below p (a + n) ≡ (any_below p a || list_any p (range_with_len a n))
+unfolding any_below
+any-from p a zero = let e : a + 0 ≡ a = omega arith in rw e (sym (or-false (any_below p a)))
+any-from p a (suc n) =
+    let e : a + suc n ≡ (a + 1) + n = omega arith in
+    rw e (any-from p (a + 1) n ∙ rw (add-one a) (or_assoc (any_below p a) (p a) (list_any p (range_with_len (suc a) n))))
+
+pub any-listed : (p : ℕ → Bool) (n : ℕ) → list_any p (range_with_len 0 n) ≡ any_below p n
+unfolding any_below
+any-listed p n = let e : 0 + n ≡ n = omega arith in rw e at (sym (any-from p 0 n))
+
 -- ---- the cases together
 module _ (k : ℕ) (s : Storey) (rows : List Member) where
   abbrev pub risky-in : ℕ → Bool
   risky-in c = case_risky published_rules k c (shear_of c s) rows
 
-  pub risky-none : false ≡ any_below risky-in 0
-  unfolding any_below
-  risky-none = refl
-
-  pub risky-next : (c : ℕ) (before z : Bool) (f : StoreyFinding) → before ≡ any_below risky-in c → f ≡ finding_in published_rules k s rows c → z ≡ (before || f.risky) → z ≡ any_below risky-in (c + 1)
-  unfolding storey_finding any_below
-  risky-next c before z f b e q = q ∙ rw (b, e, add-one c)
-
-  pub risky-all : (form c n : ℕ) (z : Bool) → n ≡ case_count form → c ≤ n → n ≤ c → z ≡ any_below risky-in c → z ≡ storey_risky published_rules form k s rows
-  unfolding storey_risky
-  risky-all form c n z e l h q = let d : c ≡ case_count form = omega (arith, e) in q ∙ ap (any_below risky-in) d
-
--- the form of four cases has four
-pub case-of-four : (form c : ℕ) → form ≡ 2 → c < 4 → c < case_count form
-case-of-four form c e l = rw e l
-
-some-of-four : (a b c d : Bool) → (a || (b || (c || d))) ≡ (((a || b) || c) || d)
-some-of-four true b c d = refl
-some-of-four false true c d = refl
-some-of-four false false c d = refl
-
-module _ (form k : ℕ) (s : Storey) (rows : List Member) (a : StoreyAnswer) where
-  pub judged-one : (f : StoreyFinding) → (form ≡ 2 → ⊥) → f ≡ finding_in published_rules k s rows 0 → a ≡ Judged f → a ≡ judged_by published_rules k form s rows
-  judged-one f ne e q = q ∙ rw (e, ne_eqb form 2 ne)
-
-  pub judged-four : (f g h i : StoreyFinding) → form ≡ 2 → f ≡ finding_in published_rules k s rows 0 → g ≡ finding_in published_rules k s rows 1 → h ≡ finding_in published_rules k s rows 2 → i ≡ finding_in published_rules k s rows 3 → a ≡ JudgedCases (cases_by f g h i) → a ≡ judged_by published_rules k form s rows
+  -- the judgments in one case and in four
+  pub judged-one : (f : StoreyFinding) → f ≡ finding_in published_rules k s rows 0 → record { risky = f.risky; findings = One f } ≡ judged_by published_rules k 1 s rows
   unfolding storey_risky storey_finding any_below
-  judged-four f g h i e p q r t z = z ∙ rw (e, p, q, r, t, some-of-four (risky-in k s rows 0) (risky-in k s rows 1) (risky-in k s rows 2) (risky-in k s rows 3))
+  judged-one f e = rw e
 
--- ---- where the call refuses nothing
-module _ (k form : ℕ) (s : Storey) (rows : List Member) (none : storey_call_fault k form s rows ≡ 0) where
-  answered : judged_by published_rules k form s rows ≡ storey_answer_by published_rules k form s rows
-  unfolding storey_answer_by
-  answered = rw (eq-eqb _ _ none)
+  pub judged-four : (f g h i : StoreyFinding) → f ≡ finding_in published_rules k s rows 0 → g ≡ finding_in published_rules k s rows 1 → h ≡ finding_in published_rules k s rows 2 → i ≡ finding_in published_rules k s rows 3
+      → record { risky = ((f.risky || g.risky) || h.risky) || i.risky; findings = Four (record { case1 = f; case2 = g; case3 = h; case4 = i }) } ≡ judged_by published_rules k 2 s rows
+  unfolding storey_risky storey_finding any_below
+  judged-four f g h i p q r t = rw (p, q, r, t)
 
-  pub judged-is : (a : StoreyAnswer) → a ≡ judged_by published_rules k form s rows → returned_storey a ≡ storey_returned k form s rows
-  judged-is a e = ap returned_storey (e ∙ answered)
-
--- ---- the order of the refusals
-module _ (k form : ℕ) (s : Storey) (rows : List Member) (first : ℕ) (h : first ≡ head_fault k form s (length rows)) where
-  all_two : storey_call_fault k form s rows ≡ pick (eqb first 0) (member_rows_fault form rows) first
-  unfolding storey_call_fault
-  all_two =
-      in-order-last (count_fault s.count (length rows) ∷ level_fault k form ∷ storey_fault form s ∷ []) (member_rows_fault form rows)
-      ∙ ap (λ (x : ℕ). pick (eqb x 0) (member_rows_fault form rows) x) (sym h)
-
-  refused-is : (n : ℕ) → storey_call_fault k form s rows ≡ n → (n ≡ 0 → ⊥) → Refused n ≡ storey_answer_by published_rules k form s rows
+-- ---- the order of the refusals of the call
+module _ (k form : ℕ) (s : Storey) (rows : List Member) where
+  refused-is : (n : ℕ) → storey_call_fault k form s rows ≡ n → (n ≡ 0 → ⊥) → Err n ≡ storey_answer_by published_rules k form s rows
   unfolding storey_answer_by
   refused-is n e ne = rw e (simp (ne_eqb n 0 ne))
 
-  pub head-refused : (a : StoreyAnswer) → (first ≡ 0 → ⊥) → a ≡ Refused first → returned_storey a ≡ storey_returned k form s rows
-  head-refused a ne q = ap returned_storey (q ∙ refused-is first (all_two ∙ pick_other first (member_rows_fault form rows) ne) ne)
+  pub uncounted : (s.count ≡ length rows → ⊥) → Err 1 ≡ storey_answer_by published_rules k form s rows
+  unfolding storey_call_fault
+  uncounted n = refused-is 1 (rw (ne_eqb _ _ n) refl) (λ z. let q : ⊥ = omega arith in absurd q)
 
-  module _ (z : first ≡ 0) (f : ℕ) (e : f ≡ member_rows_fault form rows) where
-    pub call-fault : storey_call_fault k form s rows ≡ f
-    call-fault = all_two ∙ pick-zero first (member_rows_fault form rows) z ∙ sym e
+  module _ (c : s.count ≡ length rows) where
+    pub unknown : (knowledge k && known_form form) ≡ false → Err 3 ≡ storey_answer_by published_rules k form s rows
+    unfolding storey_call_fault
+    unknown e = refused-is 3 (rw (eq-eqb _ _ c, e) refl) (λ z. let q : ⊥ = omega arith in absurd q)
 
-    pub rows-refused : (a : StoreyAnswer) → (f ≡ 0 → ⊥) → a ≡ Refused f → returned_storey a ≡ storey_returned k form s rows
-    rows-refused a ne q = ap returned_storey (q ∙ refused-is f call-fault ne)
+    module _ (level : knowledge k ≡ true) (known : known_form form ≡ true) where
+      after-level : storey_call_fault k form s rows ≡ in_order (storey_fault form s ∷ member_rows_fault form rows ∷ [])
+      unfolding storey_call_fault
+      after-level = rw (eq-eqb _ _ c, level, known) refl
+
+      pub storey-refused : (r : ℕ) → 0 < r → r ≡ storey_fault form s → Err r ≡ storey_answer_by published_rules k form s rows
+      storey-refused r p e = refused-is r (after-level ∙ rw (← e) (pick_other r _ (λ z. let q : ⊥ = omega arith in absurd q))) (λ z. let q : ⊥ = omega arith in absurd q)
+
+      module _ (good : 0 ≡ storey_fault form s) where
+        all-two : storey_call_fault k form s rows ≡ member_rows_fault form rows
+        all-two = after-level ∙ rw (← good) (last_of (member_rows_fault form rows))
+
+        pub members-refused : (r : ℕ) → 0 < r → r ≡ member_rows_fault form rows → Err r ≡ storey_answer_by published_rules k form s rows
+        members-refused r p e = refused-is r (all-two ∙ sym e) (λ z. let q : ⊥ = omega arith in absurd q)
+
+        pub judged : 0 ≡ member_rows_fault form rows → Ok (judged_by published_rules k form s rows) ≡ storey_answer_by published_rules k form s rows
+        unfolding storey_answer_by
+        judged e = rw (all-two, ← e) refl
+
+        pub good-rows : 0 ≡ member_rows_fault form rows → Rows form rows
+        good-rows e = storey-rows k form s rows (all-two ∙ sym e)

@@ -3,8 +3,8 @@ pub mod Rows
 pub mod Loops
 pub mod Called
 pub mod Verdicts
-pub mod BuildingRows
-pub mod BuildingAnswers
-pub mod Returned
 pub mod Shears
 pub mod Cases
+pub mod GoodStoreys
+pub mod FirstRisky
+pub mod Returned

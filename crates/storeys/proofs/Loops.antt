@@ -22,7 +22,8 @@ use Rattle.checks.proofs.RowLaws.{row-good as good-row}
 use Rattle.records.specs.Blank.{no_member}
 use Rattle.totals.specs.declared.Tally.{Tally}
 use Rattle.totals.specs.Totals.{weight_of, no_tally, added_wall, met_by}
-use Rattle.storeys.specs.Tally.{with_member, tally_of, Rows, AddsUp, walls_from, walls_suffice_of}
+use Rattle.storeys.specs.Rows.{Rows}
+use Rattle.storeys.specs.Tally.{with_member, tally_of, AddsUp, walls_from, walls_suffice_of}
 use Rattle.storeys.proofs.Rows.{nd-most}
 
 -- ---- totals
@@ -58,7 +59,7 @@ pick-most false a n h = omega arith
 
 -- ---- good rows
 module _ (form c : ℕ) (l : c < case_count form) (rows : List Member) (g : Rows form rows) (j : ℕ) (h : j < length rows) where
-  row-good : member_case_fault (in_case c (member_in rows j)) ≡ 0
+  pub row-good : member_case_fault (in_case c (member_in rows j)) ≡ 0
   row-good = case-good form c (member_in rows j) (one (good-row form rows g.good j h)) l
 
   pub row-valid : Valid (in_case c (member_in rows j))

@@ -4,7 +4,10 @@ use Rattle.records.specs.Notation.{ℕ, max, Bool, true, false, List, [], ltb, e
 use Rattle.checks.specs.Rows.{Header, Storey, Member, Survey, records_fault, storey_in, members_of}
 use Rattle.members.specs.Finding.{flag, Returned, found, refused}
 use Rattle.storeys.specs.Storey.{Rules, storey_risky}
-use Rattle.storeys.specs.declared.BuildingAnswer.{BuildingAnswer, TheVariants.Judged, TheVariants.Refused}
+use Rattle.std.specs.Prelude.{Result, Ok, Err}
+pub use Rattle.storeys.specs.Place.{storey_named, place_of}
+pub use Rattle.storeys.specs.Counted.{named-counted}
+use Rattle.storeys.specs.declared.BuildingFinding.{BuildingFinding}
 
 -- storey i is Risky
 unfoldable pub risky_at : Rules → ℕ → ℕ → List Storey → List Member → ℕ → Bool
@@ -26,9 +29,9 @@ unfoldable pub building_risky : Rules → Survey → Bool
 building_risky rules a = some_risky rules a || tilted a.header
 
 -- the finding, with the place that it names; before it the refusals of the records
-unfoldable pub building_answer_by : Rules → Survey → ℕ → BuildingAnswer
+unfoldable pub building_answer_by : Rules → Survey → ℕ → Result BuildingFinding ℕ
 building_answer_by rules a place =
-    pick (eqb (records_fault a) 0) (Judged (record { tilted = tilted a.header; risky = building_risky rules a; place = place })) (Refused (records_fault a))
+    pick (eqb (records_fault a) 0) (Ok (record { tilted = tilted a.header; risky = building_risky rules a; place = storey_named place; counted = named-counted place })) (Err (records_fault a))
 
 -- "names a Risky storey's place, counted from 1. Which one is free where several are; 0 where none is"
 pub data PlaceOk (rules : Rules) (a : Survey) : ℕ → Type 0 where
@@ -36,20 +39,20 @@ pub data PlaceOk (rules : Rules) (a : Survey) : ℕ → Type 0 where
   named : (i : ℕ) → i < length a.storeys → risky_at rules a.header.form a.header.knowledge a.storeys a.members i ≡ true → PlaceOk rules a (i + 1)
 
 -- the place that an answer names; a refusal names none
-abbrev pub place_in : BuildingAnswer → ℕ
-place_in (Judged f) = f.place
-place_in (Refused n) = 0
+abbrev pub place_in : Result BuildingFinding ℕ → ℕ
+place_in (Ok f) = place_of f.place
+place_in (Err n) = 0
 
-abbrev pub PlaceInOk : Rules → Survey → BuildingAnswer → Type 0
-PlaceInOk rules a (Judged f) = PlaceOk rules a f.place
-PlaceInOk rules a (Refused n) = Unit
+abbrev pub PlaceInOk : Rules → Survey → Result BuildingFinding ℕ → Type 0
+PlaceInOk rules a (Ok f) = PlaceOk rules a (place_of f.place)
+PlaceInOk rules a (Err n) = Unit
 
 -- what each case of the answer says: the values of a printed building, and the place
-abbrev pub returned_building : BuildingAnswer → Returned
-returned_building (Judged f) = found (flag f.tilted ∷ flag f.risky ∷ f.place ∷ [])
-returned_building (Refused n) = refused n
+abbrev pub returned_building : Result BuildingFinding ℕ → Returned
+returned_building (Ok f) = found (flag f.tilted ∷ flag f.risky ∷ place_of f.place ∷ [])
+returned_building (Err n) = refused n
 
 -- what the call on a building answers: all but the place is equated
-pub record Answers (rules : Rules) (a : Survey) (r : BuildingAnswer) : Type 0 where
+pub record Answers (rules : Rules) (a : Survey) (r : Result BuildingFinding ℕ) : Type 0 where
   pub same : returned_building r ≡ returned_building (building_answer_by rules a (place_in r))
   pub place : PlaceInOk rules a r

@@ -1,6 +1,10 @@
+pub mod Rows
 pub mod Storey
+pub mod Place
+pub mod Counted
 pub mod Building
 pub mod Tally
-pub mod Verdict
+pub mod FirstRisky
+pub mod GoodStoreys
 pub mod Shears
 pub mod Cases

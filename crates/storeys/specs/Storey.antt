@@ -7,7 +7,9 @@ use Rattle.checks.specs.Rows.{count_fault, member_rows_fault}
 use Rattle.members.specs.{declared.tables.Share.Share, declared.tables.LimitSet.LimitSet, Tables.published, Tables.published_share}
 use Rattle.members.specs.Finding.{axial, finding_by, knowledge, flag, Returned, found, refused}
 use Rattle.totals.specs.{declared.StoreyFinding.StoreyFinding, Share.exceeds_share, Share.share_of, Totals.wall_shear}
-use Rattle.storeys.specs.declared.{StoreyFindings.StoreyFindings, StoreyAnswer.StoreyAnswer, StoreyAnswer.TheVariants.Judged, StoreyAnswer.TheVariants.JudgedCases, StoreyAnswer.TheVariants.Refused}
+use Rattle.std.specs.Prelude.{Result, Ok, Err}
+use Rattle.records.specs.declared.by_case.{FourCases.FourCases, ByForm.ByForm, ByForm.TheVariants.One, ByForm.TheVariants.Four}
+use Rattle.storeys.specs.declared.StoreyJudgment.{StoreyJudgment}
 
 -- what a survey is judged by: the limits of the members, and the allowed share of a storey
 pub record Rules : Type 0 where
@@ -58,7 +60,7 @@ abbrev pub risky_by_share : Rules → ℕ → ℕ → ℕ → List Member → Bo
 risky_by_share rules k l w ms = exceeds_share rules.share (axial_total_of ms) (length ms) (over_shear_of rules k (meets_wall_share l w ms) l ms) w
 
 abbrev pub risky_by_one_over : Rules → ℕ → ℕ → ℕ → List Member → Bool
-risky_by_one_over rules k l w ms = ltb (rules.share.ends.r2 * length ms) (axial_total_of ms) && some_over rules k (meets_wall_share l w ms) l ms
+risky_by_one_over rules k l w ms = ltb (rules.share.second.at * length ms) (axial_total_of ms) && some_over rules k (meets_wall_share l w ms) l ms
 
 -- Risky in case l: "One Risky by damage is so in every case" (document 02, N3)
 unfoldable pub case_risky : Rules → ℕ → ℕ → ℕ → List Member → Bool
@@ -88,10 +90,10 @@ storey_finding rules k l w ms =
 abbrev pub finding_in : Rules → ℕ → Storey → List Member → ℕ → StoreyFinding
 finding_in rules k s ms l = storey_finding rules k l (shear_of l s) ms
 
-abbrev pub storey_findings : Rules → ℕ → Storey → List Member → StoreyFindings
+-- in each of four cases
+abbrev pub storey_findings : Rules → ℕ → Storey → List Member → FourCases StoreyFinding
 storey_findings rules k s ms =
     record {
-      risky = storey_risky rules 2 k s ms;
       case1 = finding_in rules k s ms 0;
       case2 = finding_in rules k s ms 1;
       case3 = finding_in rules k s ms 2;
@@ -106,13 +108,18 @@ level_fault k form = pick (knowledge k && known_form form) 0 3
 unfoldable pub storey_call_fault : ℕ → ℕ → Storey → List Member → ℕ
 storey_call_fault k form s ms = in_order (count_fault s.count (length ms) ∷ level_fault k form ∷ storey_fault form s ∷ member_rows_fault form ms ∷ [])
 
--- what is found of a good storey of a form
-abbrev pub judged_by : Rules → ℕ → ℕ → Storey → List Member → StoreyAnswer
-judged_by rules k form s ms = pick (in_cases form) (JudgedCases (storey_findings rules k s ms)) (Judged (finding_in rules k s ms 0))
+-- what is found of a good storey of a form: whether it is Risky, and in each case of the form
+abbrev pub judged_by : Rules → ℕ → ℕ → Storey → List Member → StoreyJudgment
+judged_by rules k form s ms =
+    record {
+      risky = storey_risky rules form k s ms;
+      findings = pick (in_cases form) (Four (storey_findings rules k s ms)) (One (finding_in rules k s ms 0));
+    }
 
-unfoldable pub storey_answer_by : Rules → ℕ → ℕ → Storey → List Member → StoreyAnswer
+-- the finding, or the number of the first refusal
+unfoldable pub storey_answer_by : Rules → ℕ → ℕ → Storey → List Member → Result StoreyJudgment ℕ
 storey_answer_by rules k form s ms =
-    pick (eqb (storey_call_fault k form s ms) 0) (judged_by rules k form s ms) (Refused (storey_call_fault k form s ms))
+    pick (eqb (storey_call_fault k form s ms) 0) (Ok (judged_by rules k form s ms)) (Err (storey_call_fault k form s ms))
 
 -- the values of a finding: those of a printed storey after its number, the 0.40 condition, by which of the three rules it is Risky, and the allowed share's two numbers
 abbrev pub finding_values : StoreyFinding → List ℕ
@@ -120,12 +127,15 @@ finding_values f =
     f.axial_total ∷ f.members ∷ f.over_shear ∷ f.shear ∷ flag f.risky ∷ flag f.walls_suffice
     ∷ flag f.by_share ∷ flag f.by_one_over ∷ flag f.by_damage ∷ f.allowed.num ∷ f.allowed.den ∷ []
 
+-- in each case of the form
+abbrev pub findings_values : ByForm StoreyFinding → List ℕ
+findings_values (One f) = finding_values f
+findings_values (Four f) = finding_values f.case1 ++ (finding_values f.case2 ++ (finding_values f.case3 ++ finding_values f.case4))
+
 -- what each case of the answer says: whether the storey is Risky, and the values in each case of the form
-abbrev pub returned_storey : StoreyAnswer → Returned
-returned_storey (Judged f) = found (flag f.risky ∷ finding_values f)
-returned_storey (JudgedCases f) =
-    found (flag f.risky ∷ (finding_values f.case1 ++ (finding_values f.case2 ++ (finding_values f.case3 ++ finding_values f.case4))))
-returned_storey (Refused n) = refused n
+abbrev pub returned_storey : Result StoreyJudgment ℕ → Returned
+returned_storey (Ok j) = found (flag j.risky ∷ findings_values j.findings)
+returned_storey (Err n) = refused n
 
 -- what the paper returns, by the published rules
 abbrev pub storey_returned : ℕ → ℕ → Storey → List Member → Returned

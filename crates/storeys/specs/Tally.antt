@@ -1,15 +1,11 @@
 -- The totals of some members taken together, and what the functions that add them up need: for the proofs of inner functions, and for passes over a storey's members.
-use Rattle.std.specs.Prelude.{ℕ, ◌+◌, ◌*◌, ◌≤◌, ◌<◌, Bool, true, ◌||◌, List, [], ◌∷◌, ◌≡◌, length}
-use Rattle.records.specs.Notation.{in_order}
-use Rattle.records.specs.Records.{in_case, storey_fault, member_case_fault}
-use Rattle.records.specs.declared.Storey.{Storey}
+use Rattle.std.specs.Prelude.{ℕ, ◌+◌, ◌*◌, ◌≤◌, ◌<◌, Bool, true, List, [], ◌∷◌, ◌≡◌, length}
+use Rattle.records.specs.Records.{in_case, member_case_fault}
 use Rattle.records.specs.declared.Member.{Member}
 use Rattle.records.specs.declared.MemberCase.{MemberCase}
 use Rattle.members.specs.Finding.{axial_ratio_d, finding, knowledge}
-use Rattle.storeys.specs.declared.StoreyFindings.{StoreyFindings}
-use Rattle.storeys.specs.Storey.{published_rules, axial_total_of, over_shear_of, some_over, damaged, level_fault}
-use Rattle.totals.specs.{declared.Tally.Tally, declared.StoreyFinding.StoreyFinding, Totals.members_most, Totals.total_most, Totals.added_by, Totals.added_wall, Totals.met_by}
-use Rattle.checks.specs.Rows.{count_fault, member_rows_fault}
+use Rattle.storeys.specs.Storey.{published_rules, axial_total_of, over_shear_of, some_over, damaged}
+use Rattle.totals.specs.{declared.Tally.Tally, Totals.members_most, Totals.total_most, Totals.added_by, Totals.added_wall, Totals.met_by}
 
 -- the totals with one good member more
 unfoldable pub with_member : Tally → ℕ → Bool → MemberCase → Tally
@@ -34,20 +30,6 @@ pub record AddsUp (t : Tally) (k : ℕ) (m : MemberCase) : Type 0 where
   pub axial-total : t.axial_total ≤ total_most
   pub over-shear : t.over_shear ≤ total_most
   pub damage : t.damage ≤ total_most
-
--- the members of a storey of a form that the calls judge: good ones, 200 at most
-pub record Rows (form : ℕ) (ms : List Member) : Type 0 where
-  pub good : member_rows_fault form ms ≡ 0
-  pub most : length ms ≤ 200
-
--- the findings in four cases: Risky where one is
-abbrev pub cases_by : StoreyFinding → StoreyFinding → StoreyFinding → StoreyFinding → StoreyFindings
-cases_by a b c d =
-    record { risky = a.risky || (b.risky || (c.risky || d.risky)); case1 = a; case2 = b; case3 = c; case4 = d }
-
--- the refusals of the call on a storey before its members'
-abbrev pub head_fault : ℕ → ℕ → Storey → ℕ → ℕ
-head_fault k form s rows = in_order (count_fault s.count rows ∷ level_fault k form ∷ storey_fault form s ∷ [])
 
 -- the walls' V of some members in case l, from t on
 unfoldable pub walls_from : ℕ → ℕ → List Member → ℕ

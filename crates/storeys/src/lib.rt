@@ -2,29 +2,23 @@
 
 #![tactic(auto)]
 
-pub mod building;
-pub mod row;
-pub mod storey;
-pub mod verdict;
+ghost use Rattle.std.specs.Prelude.{◌<◌};
+ghost use Rattle.std.specs.Option.{ForSome};
 
+pub mod building;
+pub mod good_storey;
+pub mod good_storeys;
+pub mod good_survey;
+pub mod storey;
+
+use records::by_case::ByForm;
 use totals::StoreyFinding;
 
-// In each of four load cases; Risky where it is in some case.
+// What a storey is found to be in each load case; Risky where it is in some case.
 #[derive(Clone, Copy)]
-pub struct StoreyFindings {
+pub struct StoreyJudgment {
     pub risky: bool,
-    pub case1: StoreyFinding,
-    pub case2: StoreyFinding,
-    pub case3: StoreyFinding,
-    pub case4: StoreyFinding,
-}
-
-// The finding of a storey of the old form, the findings of one in four cases, or the refusal by its number.
-#[derive(Clone, Copy)]
-pub enum StoreyAnswer {
-    Judged(StoreyFinding),
-    JudgedCases(StoreyFindings),
-    Refused(u64),
+    pub findings: ByForm<StoreyFinding>,
 }
 
 // What a building is found to be.
@@ -33,24 +27,7 @@ pub struct BuildingFinding {
     // the larger tilt is above 25,000
     pub tilted: bool,
     pub risky: bool,
-    // the place of a Risky storey, counted from 1; 0 where none is
-    pub place: u64,
-}
-
-// The finding, or the refusal by its number.
-#[derive(Clone, Copy)]
-pub enum BuildingAnswer {
-    Judged(BuildingFinding),
-    Refused(u64),
-}
-
-// The answers of the calls, each in a struct of one field.
-#[derive(Clone, Copy)]
-pub struct StoreyJudgment {
-    pub answer: StoreyAnswer,
-}
-
-#[derive(Clone, Copy)]
-pub struct BuildingJudgment {
-    pub answer: BuildingAnswer,
+    // the place of the first Risky storey, counted from 1, where there is one
+    pub place: Option<u64>,
+    pub ghost counted: { ForSome place (λ n. 0 < n) },
 }

@@ -1,33 +1,30 @@
--- The allowed share by the place of Σ, the sizes of its products, and what the published one comes to.
+-- The allowed share by the place of Σ, and what the published one comes to.
 use Prim.Native.Nat.{ℕ, ◌+◌, ◌-◌, ◌*◌, ◌≤◌, ◌<◌}
 use native.Mathlib.Omega.{arith}
 use native.Mathlib.Decide.{dec_le}
-use native.Mathlib.Nat.{mul-le-mul, mul-le-mul_left, mul-pos}
+use native.Mathlib.Nat.{mul-le-mul_left, mul-pos}
 use mathlib.Core.Path.{◌≡◌, sym, ◌∙◌}
 use lib.Dec.{leb, ltb}
 use borrow.Author.Tests.{le-leb, lt-leb, lt-ltb, le-ltb}
 use Rattle.records.specs.Notation.{pick}
 use Rattle.members.specs.declared.tables.Share.{Share}
-use Rattle.members.specs.Limits.{row, row_limit, segment}
+use Rattle.members.specs.Limits.{row_limit, segment}
 use Rattle.members.specs.Tables.{published_share}
 use Rattle.members.proofs.Interpolation.{up_to, inside, past, alone}
-use Rattle.totals.specs.Share.{allowed_share, exceeds_share, PublishedShare}
+use Rattle.totals.specs.Share.{for_members, allowed_share, exceeds_share, PublishedShare}
 
 module _ (share : Share) (σ c : ℕ) where
-  pub share-first : σ ≤ share.ends.r1 * c → allowed_share share σ c ≡ row_limit (row (share.ends.r1 * c) share.shares.r1)
+  pub share-first : σ ≤ share.first.at * c → allowed_share share σ c ≡ row_limit (for_members share.first c)
   unfolding allowed_share
   share-first h = up_to _ _ _ σ h
 
-  pub share-between : share.ends.r1 * c < σ → σ ≤ share.ends.r2 * c → allowed_share share σ c ≡ segment (row (share.ends.r1 * c) share.shares.r1) (row (share.ends.r2 * c) share.shares.r2) σ
+  pub share-between : share.first.at * c < σ → σ ≤ share.second.at * c → allowed_share share σ c ≡ segment (for_members share.first c) (for_members share.second c) σ
   unfolding allowed_share
   share-between h k = inside _ _ _ σ h k
 
-  pub share-second : share.ends.r1 * c < σ → share.ends.r2 * c < σ → allowed_share share σ c ≡ row_limit (row (share.ends.r2 * c) share.shares.r2)
+  pub share-second : share.first.at * c < σ → share.second.at * c < σ → allowed_share share σ c ≡ row_limit (for_members share.second c)
   unfolding allowed_share
   share-second h k = past _ _ _ σ h k ∙ alone _ σ
-
-pub part-most : (s d : ℕ) → s ≤ 100 → d ≤ 40_000_000 → s * d ≤ 4_000_000_000
-part-most s d h g = mul-le-mul h g
 
 -- two tests that hold together
 same_test : (a b c d : ℕ) → (a < b → c < d) → (c < d → a < b) → ltb a b ≡ ltb c d

@@ -1,12 +1,15 @@
 -- The allowed share of a storey (document 01, "Storey and building").
 use Rattle.std.specs.Prelude.{◌-◌, ◌*◌, ◌∷◌, ◌≡◌}
 use Rattle.records.specs.Notation.{ℕ, Bool, [], leb, ltb, pick}
-use Rattle.members.specs.{declared.tables.Share.Share, declared.limits.Fraction.Fraction, Tables.published_share, Limits.row, Limits.interp}
+use Rattle.members.specs.{declared.tables.Share.Share, declared.limits.{Row.Row, Fraction.Fraction}, Tables.published_share, Limits.row, Limits.interp}
 
--- the allowed share in hundredths, at the axial ratios Σ of c members: linear between the ends and constant outside
+-- a row of the share for c members, whose axial ratios are added up
+abbrev pub for_members : Row → ℕ → Row
+for_members p c = row (p.at * c) p.limit
+
+-- the allowed share in hundredths, at the axial ratios Σ of c members: linear between the two rows and constant outside
 unfoldable pub allowed_share : Share → ℕ → ℕ → Fraction
-allowed_share share σ c =
-    interp (row (share.ends.r1 * c) share.shares.r1) (row (share.ends.r2 * c) share.shares.r2 ∷ []) σ
+allowed_share share σ c = interp (for_members share.first c) (for_members share.second c ∷ []) σ
 
 -- "P / W exceeds it"
 unfoldable pub exceeds_share : Share → ℕ → ℕ → ℕ → ℕ → Bool

@@ -56,7 +56,7 @@ with_finding t f m = pick (takes_one t f.nd.0 m.case.shear) (added_by t f.over f
 
 -- "Σ > 65,000 × c and some member is over"
 abbrev pub one_over : Share → Tally → Bool
-one_over share t = ltb (share.ends.r2 * t.members) t.axial_total && t.some
+one_over share t = ltb (share.second.at * t.members) t.axial_total && t.some
 
 -- a number is past its most
 abbrev pub past_most : ℕ → Tally → Bool

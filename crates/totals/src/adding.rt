@@ -1,115 +1,80 @@
 // One member added to the totals.
-ghost use Rattle.std.specs.Prelude.{◌≡◌, ◌≤◌};
+ghost use Rattle.std.specs.Prelude.{◌≡◌};
 ghost use Rattle.records.specs.Records.{in_case};
-ghost use Rattle.totals.specs.Totals.{weight_of, no_tally, added_by, takes_one, AddsNumbers, with_finding, added_wall};
+ghost use Rattle.totals.specs.Totals.{weight_of, no_tally, takes_one, with_finding, added_wall};
 
 use crate::{MEMBERS_MOST, SHEAR_MOST, TOTAL_MOST, Tally};
 use members::class::is_wall;
 use members::finding::Finding;
 use members::units::Ratio;
-use records::numbers::in_case;
 use records::{Member, MemberCase};
 
 // The walls' V so far, with one member more in case c. Past its most nothing is added.
-pub fn add_wall(t: u64, m: Member, c: usize) -> u64
-    ensures { result ≡ added_wall t (in_case c m) }
+pub fn add_wall(t: u64, m: &Member, c: usize) -> u64
+    ensures { result ≡ added_wall t (in_case c m.now) }
 {
-    let one = in_case(m, c);
-    if TOTAL_MOST < t {
-        return t;
-    }
-    if SHEAR_MOST < one.case.shear {
-        return t;
-    }
-    if is_wall(one) {
-        return t + one.case.shear;
-    }
-    t
-}
-
-// The totals of no member.
-pub fn no_tally() -> Tally
-    ensures { result ≡ no_tally }
-{
-    Tally {
-        members: 0,
-        axial_total: 0,
-        over_shear: 0,
-        some: false,
-        damage: 0,
+    let one = m.in_case(c);
+    if t <= TOTAL_MOST && one.case.shear <= SHEAR_MOST && is_wall(&one) {
+        t + one.case.shear
+    } else {
+        t
     }
 }
 
+// What a member with damage of a kind adds.
 fn weight(kind: u64) -> u64
-    ensures { (result ≡ weight_of kind) × (result ≤ 140) }
+    ensures { result ≡ weight_of kind }
 {
-    if kind == 1 {
-        return 20;
+    match kind {
+        1 => 20,
+        2 => 28,
+        3 => 35,
+        4 => 140,
+        _ => 0,
     }
-    if kind == 2 {
-        return 28;
-    }
-    if kind == 3 {
-        return 35;
-    }
-    if kind == 4 {
-        return 140;
-    }
-    0
 }
 
-// The totals take one member more: there are fewer than 200, and no number is past its most.
-fn takes_one(t: Tally, nd: u64, shear: u64) -> bool
-    ensures { result ≡ takes_one t nd shear }
-{
-    if MEMBERS_MOST <= t.members {
-        return false;
+impl Tally {
+    // The totals of no member.
+    pub fn none() -> Tally
+        ensures { result ≡ no_tally }
+    {
+        Tally {
+            members: 0,
+            axial_total: 0,
+            over_shear: 0,
+            some: false,
+            damage: 0,
+        }
     }
-    if TOTAL_MOST < t.axial_total {
-        return false;
-    }
-    if TOTAL_MOST < t.over_shear {
-        return false;
-    }
-    if TOTAL_MOST < t.damage {
-        return false;
-    }
-    if Ratio::CAP < nd {
-        return false;
-    }
-    shear <= SHEAR_MOST
-}
 
-// The totals with the finding of a member; a 201st changes nothing.
-pub fn add_finding(t: Tally, f: Finding, m: MemberCase) -> Tally
-    ensures { result ≡ with_finding t f m }
-{
-    if takes_one(t, f.nd.0, m.case.shear) {
-        return add_numbers(t, f.over, f.nd.0, m);
+    // The totals take one member more: there are fewer than 200, and no number is past its most.
+    fn takes_one(&self, nd: Ratio, shear: u64) -> bool
+        ensures { result ≡ takes_one self.now nd.0 shear }
+    {
+        self.members < MEMBERS_MOST
+            && self.axial_total <= TOTAL_MOST
+            && self.over_shear <= TOTAL_MOST
+            && self.damage <= TOTAL_MOST
+            && nd.0 <= Ratio::CAP
+            && shear <= SHEAR_MOST
     }
-    t
-}
 
-// The totals with a member's numbers: whether it is over, and its n_D.
-fn add_numbers(t: Tally, over: bool, nd: u64, m: MemberCase) -> Tally
-    requires { AddsNumbers t nd m }
-    ensures { result ≡ added_by t over nd m }
-{
-    let w = weight(m.damage);
-    if over {
-        return Tally {
-            members: t.members + 1,
-            axial_total: t.axial_total + nd,
-            over_shear: t.over_shear + m.case.shear,
-            some: true,
-            damage: t.damage + w,
-        };
-    }
-    Tally {
-        members: t.members + 1,
-        axial_total: t.axial_total + nd,
-        over_shear: t.over_shear,
-        some: t.some,
-        damage: t.damage + w,
+    // The totals with the finding of a member; a 201st changes nothing.
+    #[tactic(auto, unfolding(crate::specs::Totals::with_finding))]
+    pub fn with_finding(self, f: &Finding, m: &MemberCase) -> Tally
+        ensures { result ≡ with_finding self f.now m.now }
+    {
+        if !self.takes_one(f.nd, m.case.shear) {
+            return self;
+        }
+        let over_shear = if f.over { m.case.shear } else { 0 };
+        Tally {
+            members: self.members + 1,
+            axial_total: self.axial_total + f.nd.0,
+            over_shear: self.over_shear + over_shear,
+            some: self.some || f.over,
+            damage: self.damage + weight(m.damage),
+        }
     }
 }

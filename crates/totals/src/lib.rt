@@ -1,5 +1,5 @@
-// The totals of a storey's members in one load case, and what the storey is found to be by them (document 01, "Storey and building"). One record at a time, by value: for whoever goes over
-// the members in a loop of its own.
+// The totals of a storey's members in one load case, and what the storey is found to be by them (document 01, "Storey and building"). One member at a time, for whoever goes over the members
+// in a loop of its own.
 
 #![tactic(auto)]
 

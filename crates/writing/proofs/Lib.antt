@@ -1,5 +1,5 @@
-pub mod Putting
-pub mod Storeys
+pub mod Parts
+pub mod Lengths
 pub mod Called
 pub mod Resent
 pub mod Reread

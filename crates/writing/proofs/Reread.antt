@@ -32,7 +32,7 @@ use Rattle.reading.proofs.Cases.{cases_none}
 use Rattle.reading.proofs.Numbers.{form-found}
 use Rattle.reading.proofs.Passed.{repeated-same}
 use Rattle.writing.specs.File.{members_text, storey_text, storeys_text, file_text}
-use Rattle.writing.proofs.Storeys.{length-members}
+use Rattle.writing.proofs.Lengths.{length-members}
 
 -- ---- lists
 listed-take : {A : Type 0} (f : ℕ → A) (l : List A) (d : A) (n : ℕ) → n ≤ length l → ((i : ℕ) → i < n → f i ≡ get_or l i d) → listed f n ≡ take n l

@@ -1,9 +1,8 @@
 -- The writing call (document 02, N1): any survey, and a buffer of any length.
-use Rattle.std.specs.Prelude.{◌∷◌, ◌++◌}
+use Rattle.std.specs.Prelude.{◌∷◌, ◌++◌, Result, Ok, Err}
 use Rattle.records.specs.Notation.{ℕ, List, [], leb, eqb, length, drop, pick, in_order}
 use Rattle.checks.specs.Rows.{Survey, records_fault}
 use Rattle.members.specs.Finding.{Returned, found, refused}
-use Rattle.writing.specs.declared.WriteAnswer.{WriteAnswer, TheVariants.Written, TheVariants.Refused}
 use Rattle.writing.specs.File.{file_text}
 
 -- "11, the file is longer than the lent buffer"
@@ -14,13 +13,14 @@ file_length_fault size room = pick (leb size room) 0 11
 unfoldable pub file_fault : Survey → ℕ → ℕ
 file_fault a room = in_order (records_fault a ∷ file_length_fault (length (file_text a)) room ∷ [])
 
-unfoldable pub file_answer : Survey → ℕ → WriteAnswer
-file_answer a room = pick (eqb (file_fault a room) 0) (Written (length (file_text a))) (Refused (file_fault a room))
+-- the file's length, or the refusal by its number
+unfoldable pub file_answer : Survey → ℕ → Result ℕ ℕ
+file_answer a room = pick (eqb (file_fault a room) 0) (Ok (length (file_text a))) (Err (file_fault a room))
 
 -- what each case of the answer says: "give its length"
-abbrev pub returned_file : WriteAnswer → Returned
-returned_file (Written n) = found (n ∷ [])
-returned_file (Refused n) = refused n
+abbrev pub returned_file : Result ℕ ℕ → Returned
+returned_file (Ok n) = found (n ∷ [])
+returned_file (Err n) = refused n
 
 -- what the paper returns
 abbrev pub file_returned : Survey → ℕ → Returned

@@ -1,266 +1,123 @@
-// One record's line, by value, put into the bytes from a place on: each `put_` gives the next place. And the refusal and the answer of the call.
-ghost use Rattle.std.specs.Prelude.{◌≡◌, ◌∷◌, ◌+◌, ◌*◌, ◌≤◌, ◌<◌, length};
-ghost use Rattle.records.specs.Records.{storey_kind, header_values, storey_values, member_values, case_values, member_case_values};
-ghost use Rattle.records.specs.declared.Kind.TheVariants.{B, S, M, S4, M4, D};
-ghost use Rattle.format.specs.Lines.{line_size, member_size};
+// The lines of a survey file, put by a writer of columns one after another. No methods of a struct that holds the writer: tried, and the proof did not close, as it
+// follows lent bytes into a struct, and not into one that holds another.
+ghost use Rattle.std.specs.Prelude.{◌≡◌, length};
+ghost use Rattle.records.specs.Forms.{form_number};
+ghost use Rattle.records.specs.Records.{storey_kind, header_values, storey_values};
+ghost use Rattle.records.specs.declared.Kind.TheVariants.{B};
 ghost use Rattle.format.specs.Text.{field_text, fields_text, line_text, cases_text, member_text};
-ghost use Rattle.columns.specs.Bytes.{stamped};
-ghost use Rattle.writing.specs.Sizes.{file_size, FewRows, file_fault_by};
+ghost use Rattle.columns.specs.Writer.{HasRoom, Written};
+ghost use Rattle.checks.specs.RowChecks.{records_of};
+ghost use Rattle.writing.specs.File.{members_text, storey_text, storeys_text, file_text};
 
-use crate::{WriteAnswer, Writing};
-use columns::line::put_field;
-use format::lines::{
-    CASE_SIZE, HEADER_SIZE, MEMBER_CASES_SIZE, MEMBER_SIZE, STOREY_CASES_SIZE, STOREY_SIZE,
-    is_force, tag_byte,
-};
-use records::numbers::in_case;
-use records::{CASES, FOUR_CASES, Header, Kind, LoadCase, Member, MemberCase, Storey, ZERO_FORCE};
+use checks::Survey;
+use columns::writer::ColumnWriter;
+use format::lines::{is_force, tag_byte};
+use records::form::Form;
+use records::{CASES, Header, Kind, Member, Storey, ZERO_FORCE};
 
 // A number as it is held, in its 8 columns: a force with its sign.
-fn put_number(out: &mut [u8], at: usize, force: bool, v: u64) -> usize
-    requires { at + 8 ≤ length out.old }
-    ensures value { result ≡ at + 8 }
-    ensures out_after { out.new ≡ stamped out.old at (field_text force v) }
+fn put_number(writer: &mut ColumnWriter, force: bool, v: u64)
+    requires { HasRoom (length (field_text force v)) writer.old }
+    ensures { Written (field_text force v) writer.old writer.new }
 {
     if !force {
-        return put_field(out, at, 8, b' ', v);
+        writer.field(8, b' ', v);
+    } else if v < ZERO_FORCE {
+        writer.field(8, b'-', ZERO_FORCE - v);
+    } else {
+        writer.field(8, b' ', v - ZERO_FORCE);
     }
-    if ZERO_FORCE <= v {
-        return put_field(out, at, 8, b' ', v - ZERO_FORCE);
-    }
-    put_field(out, at, 8, b'-', ZERO_FORCE - v)
 }
 
-fn put_numbers(out: &mut [u8], at: usize, kind: Kind, values: &[u64]) -> usize
-    requires { at + 8 * length values.now ≤ length out.old }
-    ensures value { result ≡ at + 8 * length values.now }
-    ensures out_after { out.new ≡ stamped out.old at (fields_text kind 0 values.now) }
+// The fields of a line.
+fn put_numbers(writer: &mut ColumnWriter, kind: Kind, values: &[u64])
+    requires { HasRoom (length (fields_text kind 0 values.now)) writer.old }
+    ensures { Written (fields_text kind 0 values.now) writer.old writer.new }
 {
-    let mut p = at;
-    let mut j = 0;
-    while j < values.len() {
-        p = put_number(out, p, is_force(kind, j), values[j]);
-        j += 1;
+    for (j, v) in values.iter().enumerate() {
+        put_number(writer, is_force(kind, j), *v);
     }
-    p
 }
 
 // A line: its tag, its fields, LF.
-fn put_survey_line(out: &mut [u8], at: usize, kind: Kind, values: &[u64]) -> usize
-    requires { at + (2 + 8 * length values.now) ≤ length out.old }
-    ensures value { result ≡ at + (2 + 8 * length values.now) }
-    ensures out_after { out.new ≡ stamped out.old at (line_text kind values.now) }
+fn put_line(writer: &mut ColumnWriter, kind: Kind, values: &[u64])
+    requires { HasRoom (length (line_text kind values.now)) writer.old }
+    ensures { Written (line_text kind values.now) writer.old writer.new }
 {
-    out[at] = tag_byte(kind);
-    let p = put_numbers(out, at + 1, kind, values);
-    out[p] = b'\n';
-    p + 1
+    writer.text(&[tag_byte(kind)]);
+    put_numbers(writer, kind, values);
+    writer.text(b"\n");
 }
 
-// The B line, from the front.
-pub(crate) fn put_header(out: &mut [u8], h: Header) -> usize
-    requires { line_size B ≤ length out.old }
-    ensures value { result ≡ line_size B }
-    ensures out_after { out.new ≡ stamped out.old 0 (line_text B (header_values h)) }
+// The B line.
+fn put_header(writer: &mut ColumnWriter, h: &Header)
+    requires { HasRoom (length (line_text B (header_values h.now))) writer.old }
+    ensures { Written (line_text B (header_values h.now)) writer.old writer.new }
 {
-    let values = [h.knowledge, h.height, h.storeys, h.tilt1, h.tilt2, h.count];
-    put_survey_line(out, 0, Kind::B, &values)
-}
-
-// The S line of a storey in the form of four cases.
-fn put_shears(out: &mut [u8], at: usize, s: Storey) -> usize
-    requires { at + line_size S4 ≤ length out.old }
-    ensures value { result ≡ at + line_size S4 }
-    ensures out_after { out.new ≡ stamped out.old at (line_text S4 (storey_values 2 s)) }
-{
-    let values = [
-        s.number,
-        s.shears[0],
-        s.shears[1],
-        s.shears[2],
-        s.shears[3],
-        s.count,
-    ];
-    put_survey_line(out, at, Kind::S4, &values)
-}
-
-// The S line of a storey in the old form.
-fn put_storey_line(out: &mut [u8], at: usize, s: Storey) -> usize
-    requires { at + line_size S ≤ length out.old }
-    ensures value { result ≡ at + line_size S }
-    ensures out_after { out.new ≡ stamped out.old at (line_text S (storey_values 1 s)) }
-{
-    let values = [s.number, s.shears[0], s.count];
-    put_survey_line(out, at, Kind::S, &values)
+    put_line(writer, Kind::B, &h.values());
 }
 
 // The S line of a storey.
-pub(crate) fn put_storey(out: &mut [u8], at: usize, form: u64, s: Storey) -> usize
-    requires { at + line_size (storey_kind form) ≤ length out.old }
-    ensures value { result ≡ at + line_size (storey_kind form) }
-    ensures out_after { out.new ≡ stamped out.old at (line_text (storey_kind form) (storey_values form s)) }
+fn put_storey(writer: &mut ColumnWriter, form: Form, s: &Storey)
+    requires { HasRoom (length (line_text (storey_kind (form_number form)) (storey_values (form_number form) s.now))) writer.old }
+    ensures { Written (line_text (storey_kind (form_number form)) (storey_values (form_number form) s.now)) writer.old writer.new }
 {
-    if form == FOUR_CASES {
-        return put_shears(out, at, s);
+    match form {
+        Form::Old => put_line(writer, Kind::S, &s.values()),
+        Form::FourCases => put_line(writer, Kind::S4, &s.values_in_cases()),
     }
-    put_storey_line(out, at, s)
 }
 
-// D line c of a member, counted from 0.
-fn put_case(out: &mut [u8], at: usize, c: usize, case: LoadCase) -> usize
-    requires { (c < 4) × (at + line_size D ≤ length out.old) }
-    ensures value { result ≡ at + line_size D }
-    ensures out_after { out.new ≡ stamped out.old at (line_text D ((c + 1) ∷ case_values case)) }
+// The D lines of a member. No `iter` over its cases: tried, and the proof did not close, as it finds no length of an array in a struct that is lent.
+fn put_cases(writer: &mut ColumnWriter, m: &Member)
+    requires { HasRoom (length (cases_text m.now 0 4)) writer.old }
+    ensures { Written (cases_text m.now 0 4) writer.old writer.new }
 {
-    let values = [
-        (c + 1) as u64,
-        case.nk,
-        case.me,
-        case.mp,
-        case.ve,
-        case.vr,
-        case.shear,
-        case.rotation,
-        case.drift,
-    ];
-    put_survey_line(out, at, Kind::D, &values)
-}
-
-// The D lines of a member.
-fn put_cases(out: &mut [u8], at: usize, m: Member) -> usize
-    requires { at + line_size D * 4 ≤ length out.old }
-    ensures value { result ≡ at + line_size D * 4 }
-    ensures out_after { out.new ≡ stamped out.old at (cases_text m 0 4) }
-{
-    let mut p = at;
-    let mut c = 0;
-    while c < CASES {
-        let case = m.cases[c];
-        p = put_case(out, p, c, case);
-        c += 1;
+    for c in 0..CASES {
+        put_line(writer, Kind::D, &m.in_case(c).case.values(c as u64 + 1));
     }
-    p
-}
-
-// The M line of a member in the form of four cases.
-fn put_fields(out: &mut [u8], at: usize, m: Member) -> usize
-    requires { at + line_size M4 ≤ length out.old }
-    ensures value { result ≡ at + line_size M4 }
-    ensures out_after { out.new ≡ stamped out.old at (line_text M4 (member_values m)) }
-{
-    let values = [
-        m.number,
-        m.long,
-        m.short,
-        m.area,
-        m.fcm,
-        m.fctm,
-        m.fyw,
-        m.depth,
-        m.height,
-        m.spacing,
-        m.core,
-        m.hoops,
-        m.hooks,
-        m.zone,
-        m.strengthened,
-        m.factor,
-        m.damage,
-        m.nd,
-    ];
-    put_survey_line(out, at, Kind::M4, &values)
-}
-
-// The M line of a member in the old form.
-fn put_member_line(out: &mut [u8], at: usize, m: MemberCase) -> usize
-    requires { at + line_size M ≤ length out.old }
-    ensures value { result ≡ at + line_size M }
-    ensures out_after { out.new ≡ stamped out.old at (line_text M (member_case_values m)) }
-{
-    let c = m.case;
-    let values = [
-        m.number,
-        m.long,
-        m.short,
-        m.area,
-        m.fcm,
-        m.fctm,
-        m.fyw,
-        m.depth,
-        m.height,
-        m.spacing,
-        m.core,
-        m.hoops,
-        m.hooks,
-        m.zone,
-        m.strengthened,
-        m.factor,
-        m.damage,
-        m.nd,
-        c.nk,
-        c.me,
-        c.mp,
-        c.ve,
-        c.vr,
-        c.shear,
-        c.rotation,
-        c.drift,
-    ];
-    put_survey_line(out, at, Kind::M, &values)
 }
 
 // The lines of a member.
-pub(crate) fn put_member(out: &mut [u8], at: usize, form: u64, m: Member) -> usize
-    requires { at + member_size form ≤ length out.old }
-    ensures value { result ≡ at + member_size form }
-    ensures out_after { out.new ≡ stamped out.old at (member_text form m) }
+fn put_member(writer: &mut ColumnWriter, form: Form, m: &Member)
+    requires { HasRoom (length (member_text (form_number form) m.now)) writer.old }
+    ensures { Written (member_text (form_number form) m.now) writer.old writer.new }
 {
-    if form == FOUR_CASES {
-        let p = put_fields(out, at, m);
-        return put_cases(out, p, m);
-    }
-    put_member_line(out, at, in_case(m, 0))
-}
-
-// How many bytes a file of a form takes.
-fn file_size(form: u64, storeys: usize, members: usize) -> usize
-    requires { (storeys ≤ 10) × (members ≤ 2_000) }
-    ensures { result ≡ file_size form storeys members }
-{
-    if form == FOUR_CASES {
-        return HEADER_SIZE
-            + STOREY_CASES_SIZE * storeys
-            + (MEMBER_CASES_SIZE + CASE_SIZE * CASES) * members;
-    }
-    HEADER_SIZE + STOREY_SIZE * storeys + MEMBER_SIZE * members
-}
-
-// The refusal of the records, then 11: the file is longer than the buffer.
-pub(crate) fn file_fault(fault: u64, form: u64, storeys: usize, members: usize, room: usize) -> u64
-    requires { FewRows fault storeys members }
-    ensures { result ≡ file_fault_by fault form storeys members room }
-{
-    if fault != 0 {
-        return fault;
-    }
-    if file_size(form, storeys, members) <= room {
-        return 0;
-    }
-    11
-}
-
-pub(crate) fn refused_file(number: u64) -> Writing
-    ensures { result.answer ≡ WriteAnswer.Refused number }
-{
-    Writing {
-        answer: WriteAnswer::Refused(number),
+    match form {
+        Form::Old => put_line(writer, Kind::M, &m.in_case(0).values()),
+        Form::FourCases => {
+            put_line(writer, Kind::M4, &m.values());
+            put_cases(writer, m);
+        }
     }
 }
 
-pub(crate) fn written_file(length: usize) -> Writing
-    ensures { result.answer ≡ WriteAnswer.Written length }
+// The lines of some members.
+fn put_members(writer: &mut ColumnWriter, form: Form, rows: &[Member])
+    requires { HasRoom (length (members_text (form_number form) rows.now)) writer.old }
+    ensures { Written (members_text (form_number form) rows.now) writer.old writer.new }
 {
-    Writing {
-        answer: WriteAnswer::Written(length),
+    for m in rows {
+        put_member(writer, form, m);
     }
+}
+
+// The storeys in turn: the S line of each, and the lines of its members.
+fn put_storeys(writer: &mut ColumnWriter, form: Form, survey: &Survey)
+    requires { HasRoom (length (storeys_text (form_number form) survey.now.storeys.now survey.now.members.now)) writer.old }
+    ensures { Written (storeys_text (form_number form) survey.now.storeys.now survey.now.members.now) writer.old writer.new }
+{
+    for (storey, own) in survey.storey_rows() {
+        put_storey(writer, form, storey);
+        put_members(writer, form, own);
+    }
+}
+
+// The lines of a survey.
+pub(crate) fn put_survey(writer: &mut ColumnWriter, form: Form, survey: &Survey)
+    requires { (form_number form ≡ survey.now.header.form) × HasRoom (length (file_text (records_of survey.now))) writer.old }
+    ensures { Written (file_text (records_of survey.now)) writer.old writer.new }
+{
+    put_header(writer, &survey.header);
+    put_storeys(writer, form, survey);
 }

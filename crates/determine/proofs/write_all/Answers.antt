@@ -4,4 +4,4 @@ use Rattle.determine.proofs.write_all.Goals as goal
 
 pub loop-done-preserved : goal.loop-done-preserved
 loop-done-preserved g c =
-    (search rules, written_more c.write-last.result _ c.loop-done.done _ _ _ c.args.bytes.now c.in-Bytes.ensures c.write-last.ensures.bound c.loop-done.invariant.1 c.write-last.ensures.bytes)
+    (search rules, written_more c.write.result c.in-Some.n c.loop-done.done _ _ _ c.args.bytes.now (cc) c.write.ensures.bound c.loop-done.invariant.1 c.write.ensures.bytes)

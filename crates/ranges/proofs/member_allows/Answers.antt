@@ -1,11 +1,7 @@
-use Rattle.records.specs.Records.{ranges}
-use Rattle.records.specs.declared.Kind.TheVariants.{M}
-use mathlib.Core.Path.{◌∙◌}
-use Rattle.records.proofs.Allowing.{past, in-member-tables}
+use Rattle.std.proofs.Common.{ap, ◌∙◌, refl}
+use Rattle.records.specs.Records.{allows, never, member_ranges, case_ranges}
+use Rattle.ranges.proofs.Fields.{after-list}
 use Rattle.ranges.proofs.member_allows.Goals as goal
 
-pub returns-then-j-ge-MEMBER_FIELDS : goal.returns-then-j-ge-MEMBER_FIELDS
-returns-then-j-ge-MEMBER_FIELDS c = c.between.ensures ∙ past (ranges M 0) c.args.j c.args.v c.if-j-ge-MEMBER_FIELDS.true
-
 pub returns : goal.returns
-returns c = c.between-2.ensures ∙ in-member-tables c.args.j c.args.v c.if-j-ge-MEMBER_FIELDS.false
+returns c = c.field_allows-2.ensures ∙ ap (λ r. allows r c.args.v) (after-list member_ranges case_ranges c.args.j 18 never refl c.if-j-lt-MEMBER_CASES_FIELDS.false)

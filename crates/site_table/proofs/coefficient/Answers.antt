@@ -1,11 +1,11 @@
 use Rattle.std.proofs.Common.{arith}
-use Rattle.site_table.proofs.Computed.{flat, short-entry, long-entry}
+use Rattle.site_table.proofs.Computed.{listed, short-entry, long-entry}
 use Rattle.site_table.proofs.coefficient.Goals as goal
 
-pub returns-then-k-lt-LONG_START : goal.returns-then-k-lt-LONG_START
-unfolding flat
-returns-then-k-lt-LONG_START c = short-entry _ _ (omega arith) c.weighed.ensures
+pub returns-then-k-lt-SHORT_NUMBERS : goal.returns-then-k-lt-SHORT_NUMBERS
+unfolding listed
+returns-then-k-lt-SHORT_NUMBERS c = short-entry _ _ (omega arith) c.number.ensures
 
-pub returns : goal.returns
-unfolding flat
-returns c = long-entry _ _ (omega arith) (omega arith) c.weighed-2.ensures
+pub returns-else-k-lt-SHORT_NUMBERS : goal.returns-else-k-lt-SHORT_NUMBERS
+unfolding listed
+returns-else-k-lt-SHORT_NUMBERS c = long-entry _ _ (omega arith) (omega arith) c.number-else-k-lt-SHORT_NUMBERS.ensures

@@ -1,14 +1,21 @@
-use Rattle.std.proofs.Common.{subst}
-use Rattle.records.specs.Records.{survey_of}
-use Rattle.records.specs.declared.Header.{Header}
+use Rattle.std.proofs.Common.{arith, ap, subst, length, ◌<◌, ◌∙◌}
+use Rattle.records.specs.Records.{Survey, survey_of}
+use Rattle.records.specs.Refusals.{numbered}
+use Rattle.members.specs.Finding.{Returned}
 use Rattle.storeys.specs.Storey.{published_rules}
 use Rattle.storeys.specs.Building.{Answers as Answered}
+use Rattle.columns.specs.Line.{at_front}
+use Rattle.handed.specs.Handed.{header_handed}
+use Rattle.answers.specs.Packing.{packed}
+use Rattle.answers.proofs.Told.{building_told}
 use Rattle.exports.specs.Calls.{room}
 use Rattle.exports.proofs.judge_calls.llunareth_judge_building.Goals as goal
 
 pub returns : goal.returns
 returns c =
     let a = c.args in
-    let r = c.judge_building-r in
-    let Q : Header → Type 0 = λ x. Answered published_rules (survey_of x a.storeys.now a.members.now) r.result.answer in
-    room c.if-out-lt-BUILDING_COUNT.false r.result.answer (subst Q c.header_given-h.ensures (record { same = r.ensures.same; place = r.ensures.place })) c.put_building.ensures.value c.put_building.ensures.out_after
+    let r = numbered c.judge_building.result in
+    let P : Survey → Type 0 = λ x. Answered published_rules x r in
+    let answered = subst P c.survey_given-survey.ensures c.judge_building.ensures in
+    let told = building_told r in
+    room c.if-out-lt-BUILDING_COUNT.false r answered (c.put_answer.ensures.value ∙ ap packed told) (c.put_answer.ensures.out_after ∙ ap (λ (x : Returned). at_front x.values a.out.now) told)

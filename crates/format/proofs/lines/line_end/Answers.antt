@@ -1,12 +1,11 @@
-use native.Mathlib.Omega.{arith}
-use Rattle.format.proofs.Shape.{end-here, end_later, end_none}
+use Rattle.std.proofs.Common.{eqb, rules, tests}
+use Rattle.std.proofs.lemmas.Iterator.{YieldsList-from_slice}
+use Rattle.std.proofs.lemmas.Iterator.Search.{position_from_yields_List}
+use Rattle.format.proofs.Shape.{end-found}
 use Rattle.format.proofs.lines.line_end.Goals as goal
 
-pub returns-then-s-i-eq10 : goal.returns-then-s-i-eq10
-returns-then-s-i-eq10 c = let l = c.loop-i in let a = c.args in omega (arith, end-here a.s.now l.i c.loop-i-test.true c.if-s-i-eq10.true)
-
-pub loop-i-preserved : goal.loop-i-preserved
-loop-i-preserved c = let l = c.loop-i in let a = c.args in let e = end_later a.s.now l.i c.loop-i-test.true c.if-s-i-eq10.false in (omega arith, omega arith)
-
 pub returns : goal.returns
-returns c = let l = c.loop-i in omega (arith, end_none c.args.s.now l.i c.loop-i-test.false)
+returns c =
+    let s = c.args.s.now in
+    let p = position_from_yields_List (λ b. eqb b 10) _ _ c.position.result c.position.ensures.ran (YieldsList-from_slice s cc) (λ x b q k. search (rules, tests)) in
+    end-found s c.position.result c.unwrap_or.result p cc

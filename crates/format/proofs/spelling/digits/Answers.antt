@@ -1,24 +1,15 @@
-use Prim.Native.Nat.{◌+◌, ◌-◌, ◌<◌}
-use mathlib.Core.Path.{◌≡◌, sym, ◌∙◌}
+use mathlib.Core.Path.{sym, ◌∙◌}
 use native.Mathlib.Omega.{arith}
-use lib.ListN.{length, drop, get_or}
-use Rattle.format.proofs.Columns.{value-step, value_none, pushed-small, eight}
+use lib.ListN.{get_or}
+use Rattle.format.proofs.Columns.{value-more, value-all, pushed-small}
 use Rattle.format.proofs.spelling.digits.Goals as goal
 
-pub loop-i-preserved : goal.loop-i-preserved
-loop-i-preserved c =
-    let l = c.loop-i in
-    let a = c.args in
-    let h : l.i < 8 = omega arith in
-    let g : a.at + l.i < length a.s.now = omega arith in (
-      omega arith,
-      rw c.push-v.ensures (pushed-small l.v (get_or a.s.now (a.at + l.i) 0) l.i l.invariant.1),
-      rw c.push-v.ensures (value-step a.s.now a.at l.i l.v _ h g l.invariant.2),
+pub loop-column-preserved : goal.loop-column-preserved
+loop-column-preserved c =
+    let l = c.loop-column in (
+      rw c.push-number.ensures (pushed-small l.number (get_or c.args.columns.now l.column-index 0) l.column-index l.invariant.0),
+      rw c.push-number.ensures (sym (value-more c.args.columns.now l.number l.column-index (omega arith)) ∙ l.invariant.1),
     )
 
-pub returns : goal.returns
-returns c =
-    let l = c.loop-i in
-    let a = c.args in
-    let e : 8 - l.i ≡ 0 = omega arith in
-    (sym (value_none l.v (drop (a.at + l.i) a.s.now)) ∙ rw e at l.invariant.2, eight l.v l.i l.invariant.1 l.invariant.0)
+pub returns-clause-value : goal.returns-clause-value
+returns-clause-value c = let l = c.loop-column in sym (value-all c.args.columns.now l.number l.column-index (omega arith)) ∙ l.invariant.1

@@ -1,11 +1,8 @@
-use Prim.Native.Nat.{◌+◌, ◌-◌, ◌^◌, ◌≤◌, ◌<◌}
+use Prim.Native.Nat.{◌^◌, ◌<◌}
 use mathlib.Core.Path.{◌≡◌}
-use lib.ListN.{take, drop}
+use lib.ListN.{drop}
 use Rattle.format.specs.Spelling.{value}
 use Rattle.format.proofs.spelling.digits.Given as goal
 
-abbrev pub invariant-loop-i : goal.invariant-loop-i
-invariant-loop-i l = (l.i ≤ 8) × (l.v < 10 ^ l.i) × (value l.v (take (8 - l.i) (drop (l.at + l.i) l.s)) ≡ value 0 (take 8 (drop l.at l.s)))
-
-abbrev pub decreases-loop-i : goal.decreases-loop-i
-decreases-loop-i l = 8 - l.i
+abbrev pub invariant-loop-column : goal.invariant-loop-column
+invariant-loop-column l = (l.number < 10 ^ l.column-index) × (value l.number (drop l.column-index l.columns) ≡ value 0 l.columns)

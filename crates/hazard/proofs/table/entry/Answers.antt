@@ -7,4 +7,4 @@ use Rattle.hazard.proofs.table.entry.Goals as goal
 -- one test over the table: it is the list of the linear values
 pub returns : goal.returns
 unfolding numbers interp between entry_exact
-returns c = entry-is c.args.k c.wide.result (search rules) c.wide.ensures
+returns c = entry-is c.args.k c.from.result (search rules) c.from.ensures

@@ -1,72 +1,52 @@
-use Rattle.std.proofs.Common.{length, arith}
-use Rattle.report.proofs.Called.{few, fault-is, answer-refused, buffer-refused, building-clear, room-enough, answer-written, buffer-written}
+use Rattle.std.proofs.Common.{◌≡◌, ◌<◌, ◌≤◌, ap, sym, ◌∙◌, rules, Err, arith, length}
+use Rattle.records.specs.Refusals.{numbered}
+use Rattle.records.specs.declared.refusal.Refusal.TheVariants.{SheetTooLong}
+use Rattle.checks.specs.Rows.{records_fault}
+use Rattle.checks.specs.RowChecks.{records_of}
+use Rattle.columns.proofs.Stamps.{stamped-front}
+use Rattle.report.specs.Sheet.{sheet}
+use Rattle.report.proofs.Called.{records-refused, answer-refused, buffer-refused, too-long, no-fault, answer-written, buffer-written}
 use Rattle.report.proofs.sheet.write_report.Goals as goal
+use Rattle.report.proofs.sheet.write_report.Goals.{In_ok-good}
 
-pub report_fault-fault-requires : goal.report_fault-fault-requires
-report_fault-fault-requires c =
-    let a = c.args in
-    let r = c.records_fault-first in
-    let o = c.form_of in
-    few a.h a.storeys.now a.members.now r.result o.result r.ensures o.ensures
+none : (c : In_ok-good) → 0 ≡ records_fault (records_of c.args.survey.now)
+none c = sym (ap (λ s. records_fault (records_of s)) (sym c.in_ok-good.ensures) ∙ c.in_ok-good.good.good)
 
-pub returns-then-fault-ne0-clause-answer_value : goal.returns-then-fault-ne0-clause-answer_value
-returns-then-fault-ne0-clause-answer_value c =
-    let a = c.args in
-    let r = c.records_fault-first in
-    let o = c.form_of in
-    let f = c.report_fault-fault in
-    let fault = fault-is a.h a.storeys.now a.members.now r.result o.result r.ensures o.ensures f.result (length a.out.now) f.ensures in
-    answer-refused a.h a.storeys.now a.members.now a.out.now f.result fault c.if-fault-ne0.true c.refused_report.result.answer c.refused_report.ensures
+size : (c : In_ok-good) → length (sheet (records_of c.in_ok-good.good.survey)) ≡ length (sheet (records_of c.args.survey.now))
+size c = ap (λ s. length (sheet (records_of s))) c.in_ok-good.ensures
 
-pub returns-then-fault-ne0-clause-out_after : goal.returns-then-fault-ne0-clause-out_after
-returns-then-fault-ne0-clause-out_after c =
-    let a = c.args in
-    let r = c.records_fault-first in
-    let o = c.form_of in
-    let f = c.report_fault-fault in
-    let fault = fault-is a.h a.storeys.now a.members.now r.result o.result r.ensures o.ensures f.result (length a.out.now) f.ensures in
-    buffer-refused a.h a.storeys.now a.members.now a.out.now f.result fault c.if-fault-ne0.true
+pub returns-in_err-good : goal.returns-in_err-good
+returns-in_err-good c =
+    let a = records_of c.args.survey.now in
+    let r = c.in_err-good.field-0.0 in
+    let e : c.from_residual.result ≡ Err r = search rules in
+    let fault = records-refused a r (length c.args.out.now) c.in_err-good.ensures in record {
+      answer = ap numbered e ∙ answer-refused a r _ fault;
+      out_after = buffer-refused a r c.args.out.now fault;
+    }
 
-pub put_storeys-p-requires : goal.put_storeys-p-requires
-put_storeys-p-requires c =
-    let a = c.args in
-    let r = c.records_fault-first in
-    let o = c.form_of in
-    let f = c.report_fault-fault in
-    let fault = fault-is a.h a.storeys.now a.members.now r.result o.result r.ensures o.ensures f.result (length a.out.now) f.ensures in (
-      building-clear a.h a.storeys.now a.members.now a.out.now f.result fault c.if-fault-ne0.false,
-      omega (arith, room-enough a.h a.storeys.now a.members.now a.out.now f.result fault c.if-fault-ne0.false),
-    )
+pub returns-then-out-sheet_size : goal.returns-then-out-sheet_size
+returns-then-out-sheet_size c =
+    let at = (goal.at.returns-then-out-sheet_size c).In_ok-good in
+    let a = records_of c.args.survey.now in
+    let h : length c.args.out.now < length (sheet a) = omega (arith, size at) in
+    let fault = too-long a _ (none at) h in
+    record { answer = answer-refused a SheetTooLong _ fault; out_after = buffer-refused a SheetTooLong c.args.out.now fault }
 
-pub put_building-requires : goal.put_building-requires
-put_building-requires c =
-    let a = c.args in
-    let r = c.records_fault-first in
-    let o = c.form_of in
-    let f = c.report_fault-fault in
-    let fault = fault-is a.h a.storeys.now a.members.now r.result o.result r.ensures o.ensures f.result (length a.out.now) f.ensures in
-    let g = c.put_storeys-p in
-    omega (arith, g.ensures.at_value, g.auto.out, room-enough a.h a.storeys.now a.members.now a.out.now f.result fault c.if-fault-ne0.false)
+pub put_sheet-requires : goal.put_sheet-requires
+put_sheet-requires c = omega (arith, ap length c.new-writer.ensures.bytes)
 
-pub returns-clause-answer_value : goal.returns-clause-answer_value
-returns-clause-answer_value c =
-    let a = c.args in
-    let r = c.records_fault-first in
-    let o = c.form_of in
-    let f = c.report_fault-fault in
-    let fault = fault-is a.h a.storeys.now a.members.now r.result o.result r.ensures o.ensures f.result (length a.out.now) f.ensures in
-    let g = c.put_storeys-p in
-    let l = c.put_building in
-    let z = c.written_report in
-    answer-written a.h a.storeys.now a.members.now a.out.now f.result fault c.if-fault-ne0.false z.result.answer l.result z.ensures (omega (arith, g.ensures.at_value, l.ensures.value))
-
-pub returns-clause-out_after : goal.returns-clause-out_after
-returns-clause-out_after c =
-    let a = c.args in
-    let r = c.records_fault-first in
-    let o = c.form_of in
-    let f = c.report_fault-fault in
-    let fault = fault-is a.h a.storeys.now a.members.now r.result o.result r.ensures o.ensures f.result (length a.out.now) f.ensures in
-    let g = c.put_storeys-p in
-    let l = c.put_building in
-    buffer-written a.h a.storeys.now a.members.now a.out.now f.result fault c.if-fault-ne0.false g.new.out l.new.out g.result.at g.result.risky g.ensures.out_after g.ensures.risky_value g.ensures.at_value l.ensures.out_after
+pub returns : goal.returns
+returns c =
+    let at = (goal.at.returns c).In_ok-good in
+    let a = records_of c.args.survey.now in
+    let h : length (sheet a) ≤ length c.args.out.now = omega (arith, size at) in
+    let fault = no-fault a _ (none at) h in
+    let n : c.place.result ≡ length (sheet a) = omega (arith, size at) in
+    let same = c.put_sheet.ensures.same_bytes ∙ c.new-writer.ensures.same_bytes in
+    let e : _ ≡ c.put_sheet.new.writer.bytes.now = search rules in
+    let put = rw c.in_ok-good.ensures at c.put_sheet.ensures.bytes in
+    record {
+      answer = answer-written a _ _ fault n;
+      out_after = e ∙ put ∙ rw (c.new-writer.ensures.bytes, c.new-writer.ensures.at) (stamped-front (sheet a) c.args.out.now h ∙ buffer-written a c.args.out.now fault);
+    }

@@ -1,57 +1,70 @@
-use Rattle.std.proofs.Common.{arith}
-use Rattle.checks.proofs.RowLaws.{total-counted, members-most}
-use Rattle.writing.proofs.Called.{few, fault-is, answer-refused, buffer-refused, records-clear, room-enough, answer-written, buffer-written}
+use Rattle.std.proofs.Common.{◌≡◌, ◌≤◌, ◌∙◌, sym, ap, arith, rules, length, Err}
+use Rattle.checks.specs.RowChecks.{records_of}
+use Rattle.records.proofs.Refusals.{number-positive}
+use Rattle.checks.proofs.RowLaws.{storeys-most, members-most}
+use Rattle.writing.specs.File.{file_text}
+use Rattle.writing.proofs.Called.{fault_first, fault-long, fault-none, answer-refused, answer-written, buffer-refused, buffer-written}
+use Rattle.writing.proofs.Lengths.{counted-size}
 use Rattle.writing.proofs.file.write_file.Goals as goal
 
-pub file_fault-fault-requires : goal.file_fault-fault-requires
-file_fault-fault-requires c = few c.args.h c.args.storeys.now c.args.members.now c.records_fault-records.result c.records_fault-records.ensures
+pub returns-in_err-form-clause-answer : goal.returns-in_err-form-clause-answer
+returns-in_err-form-clause-answer c =
+    let s = c.args.survey.now in
+    let r = c.in_err-form.field-0.0 in
+    let q : c.from_residual.result ≡ Err r = search rules in
+    rw q (answer-refused (records_of s) _ _ (number-positive r) (fault_first _ _ r c.in_err-form.ensures.fault))
 
-pub returns-then-fault-ne0-clause-answer_value : goal.returns-then-fault-ne0-clause-answer_value
-returns-then-fault-ne0-clause-answer_value c =
-    let a = c.args in
-    let r = c.records_fault-records in
-    let f = c.file_fault-fault in
-    let is = fault-is a.h a.storeys.now a.members.now r.result r.ensures c.form_of-form.result f.result _ c.form_of-form.ensures f.ensures in
-    answer-refused a.h a.storeys.now a.members.now a.out.now f.result is c.if-fault-ne0.true _ c.refused_file.ensures
+pub returns-in_err-form-clause-out_after : goal.returns-in_err-form-clause-out_after
+returns-in_err-form-clause-out_after c =
+    let s = c.args.survey.now in
+    let r = c.in_err-form.field-0.0 in
+    buffer-refused (records_of s) _ _ (number-positive r) (fault_first _ _ r c.in_err-form.ensures.fault)
 
-pub returns-then-fault-ne0-clause-out_after : goal.returns-then-fault-ne0-clause-out_after
-returns-then-fault-ne0-clause-out_after c =
-    let a = c.args in
-    let r = c.records_fault-records in
-    let f = c.file_fault-fault in
-    let is = fault-is a.h a.storeys.now a.members.now r.result r.ensures c.form_of-form.result f.result _ c.form_of-form.ensures f.ensures in
-    buffer-refused a.h a.storeys.now a.members.now a.out.now f.result is c.if-fault-ne0.true
+pub file_size-size-requires : goal.file_size-size-requires
+file_size-size-requires c =
+    let s = c.args.survey.now in
+    let none = sym c.in_ok-form.ensures.fault in
+    (storeys-most s.header s.storeys.now s.members.now none, members-most s.header s.storeys.now s.members.now none)
 
-pub put_storeys-end-requires : goal.put_storeys-end-requires
-put_storeys-end-requires c =
-    let a = c.args in
-    let r = c.records_fault-records in
-    let f = c.file_fault-fault in
-    let o = c.form_of-form in
-    let g = c.put_header-p in
-    let is = fault-is a.h a.storeys.now a.members.now r.result r.ensures o.result f.result _ o.ensures f.ensures in
-    let none = records-clear a.h a.storeys.now a.members.now a.out.now f.result is c.if-fault-ne0.false in
-    let room = room-enough a.h a.storeys.now a.members.now a.out.now f.result is c.if-fault-ne0.false o.result o.ensures in
-    (total-counted a.h a.storeys.now a.members.now none, members-most a.h a.storeys.now a.members.now none, omega (arith, g.ensures.value, g.auto.out, room))
+pub returns-then-out-size-clause-answer : goal.returns-then-out-size-clause-answer
+returns-then-out-size-clause-answer c =
+    let s = c.args.survey.now in
+    let a = records_of s in
+    let o = c.in_ok-form.ensures in
+    let size = counted-size a o.fault _ _ o.form c.file_size-size.ensures in
+    answer-refused a _ _ (omega arith) (fault-long a _ (sym o.fault) (omega (arith, size, c.if-out-size.true)))
 
-pub returns-clause-answer_value : goal.returns-clause-answer_value
-returns-clause-answer_value c =
-    let a = c.args in
-    let r = c.records_fault-records in
-    let f = c.file_fault-fault in
-    let o = c.form_of-form in
-    let g = c.put_header-p in
-    let d = c.put_storeys-end in
-    let is = fault-is a.h a.storeys.now a.members.now r.result r.ensures o.result f.result _ o.ensures f.ensures in
-    answer-written a.h a.storeys.now a.members.now a.out.now f.result is c.if-fault-ne0.false o.result o.ensures _ d.result c.written_file.ensures (omega (arith, g.ensures.value, d.ensures.value))
+pub returns-then-out-size-clause-out_after : goal.returns-then-out-size-clause-out_after
+returns-then-out-size-clause-out_after c =
+    let s = c.args.survey.now in
+    let a = records_of s in
+    let o = c.in_ok-form.ensures in
+    let size = counted-size a o.fault _ _ o.form c.file_size-size.ensures in
+    buffer-refused a _ 11 (omega arith) (fault-long a _ (sym o.fault) (omega (arith, size, c.if-out-size.true)))
+
+pub put_survey-requires : goal.put_survey-requires
+put_survey-requires c =
+    let s = c.args.survey.now in
+    let o = c.in_ok-form.ensures in
+    let size = counted-size (records_of s) o.fault _ _ o.form c.file_size-size.ensures in
+    let w = c.new-writer.ensures in
+    (o.form, omega (arith, size, ap length w.bytes, c.if-out-size.false, w.at))
+
+pub returns-clause-answer : goal.returns-clause-answer
+returns-clause-answer c =
+    let s = c.args.survey.now in
+    let a = records_of s in
+    let o = c.in_ok-form.ensures in
+    let size = counted-size a o.fault _ _ o.form c.file_size-size.ensures in
+    answer-written a _ _ (fault-none a _ (sym o.fault) (omega (arith, size, c.if-out-size.false))) (omega (arith, c.place.ensures, c.put_survey.ensures.at, c.new-writer.ensures.at))
 
 pub returns-clause-out_after : goal.returns-clause-out_after
 returns-clause-out_after c =
-    let a = c.args in
-    let r = c.records_fault-records in
-    let f = c.file_fault-fault in
-    let o = c.form_of-form in
-    let g = c.put_header-p in
-    let d = c.put_storeys-end in
-    let is = fault-is a.h a.storeys.now a.members.now r.result r.ensures o.result f.result _ o.ensures f.ensures in
-    buffer-written a.h a.storeys.now a.members.now a.out.now f.result is c.if-fault-ne0.false o.result o.ensures g.new.out d.new.out g.result g.ensures.out_after g.ensures.value d.ensures.out_after
+    let s = c.args.survey.now in
+    let a = records_of s in
+    let o = c.in_ok-form.ensures in
+    let size = counted-size a o.fault _ _ o.form c.file_size-size.ensures in
+    let fits : length (file_text a) ≤ length c.args.out.now = omega (arith, size, c.if-out-size.false) in
+    let same = c.put_survey.ensures.same_bytes ∙ c.new-writer.ensures.same_bytes in
+    let lent : _ ≡ c.put_survey.new.writer.bytes.now = search rules in
+    lent ∙ buffer-written a _ (fault-none a _ (sym o.fault) fits) fits _ _ c.new-writer.ensures.bytes c.new-writer.ensures.at c.put_survey.ensures

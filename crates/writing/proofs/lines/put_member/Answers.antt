@@ -1,14 +1,24 @@
-use borrow.Author.Tests.{eq-eqb, ne_eqb}
-use Rattle.writing.proofs.Putting.{cases-put, member-put}
+use Rattle.columns.proofs.Written.{both-written, part-fits, after-fits}
+use Rattle.format.specs.Text.{cases_text}
+use Rattle.writing.proofs.Parts.{old-parts, four-parts}
 use Rattle.writing.proofs.lines.put_member.Goals as goal
 
-pub returns-then-form-eq-FOUR_CASES-clause-out_after : goal.returns-then-form-eq-FOUR_CASES-clause-out_after
-returns-then-form-eq-FOUR_CASES-clause-out_after c =
-    let a = c.args in
-    let f = c.put_fields-p in
-    let d = c.put_cases in (cases-put a.form a.m a.out.now a.at (eq-eqb a.form 2 c.if-form-eq-FOUR_CASES.true) f.new.out d.new.out f.result d.result f.ensures.value f.ensures.out_after d.ensures.value d.ensures.out_after).1
+pub put_line-requires : goal.put_line-requires
+put_line-requires c = rw (c.values.ensures, c.in_case.ensures) (rw (old-parts c.args.m.now _ c.in-Old.is) at c.requires)
 
-pub returns-clause-out_after : goal.returns-clause-out_after
-returns-clause-out_after c =
+pub put_line-requires-in-FourCases : goal.put_line-requires-in-FourCases
+put_line-requires-in-FourCases c =
     let a = c.args in
-    let f = c.put_member_line in (member-put a.form a.m a.out.now a.at (ne_eqb a.form 2 c.if-form-eq-FOUR_CASES.false) c.in_case.result f.new.out f.result c.in_case.ensures f.ensures.value f.ensures.out_after).1
+    rw c.values-in-FourCases.ensures (part-fits _ (cases_text a.m.now 0 4) a.writer.now (rw (four-parts a.m.now _ c.in-FourCases.is) at c.requires))
+
+pub put_cases-requires : goal.put_cases-requires
+put_cases-requires c =
+    after-fits _ _ _ _ (rw (four-parts c.args.m.now _ c.in-FourCases.is) at c.requires) (rw c.values-in-FourCases.ensures at c.put_line-in-FourCases.ensures)
+
+pub returns-in-Old : goal.returns-in-Old
+returns-in-Old c = rw (old-parts c.args.m.now _ c.in-Old.is) (rw (c.values.ensures, c.in_case.ensures) at c.put_line.ensures)
+
+pub returns-in-FourCases : goal.returns-in-FourCases
+returns-in-FourCases c =
+    rw (four-parts c.args.m.now _ c.in-FourCases.is)
+    (both-written _ _ _ _ _ (rw c.values-in-FourCases.ensures at c.put_line-in-FourCases.ensures) c.put_cases.ensures)
