@@ -74,15 +74,15 @@ impl<'a> ColumnWriter<'a> {
     }
 
     // A line of so many fields, with a tag of so many bytes, fits from the place on.
-    fn has_line_room(&self, tag: usize, values: usize) -> bool
-        ensures { result ≡ leb (self.now.at + (tag + (12 * values + 1))) (length self.now.bytes.now) }
+    fn has_line_room(&self, tag_size: usize, field_count: usize) -> bool
+        ensures { result ≡ leb (self.now.at + (tag_size + (12 * field_count + 1))) (length self.now.bytes.now) }
     {
         let room = self.bytes.len();
-        if room / 12 < values {
+        if room / 12 < field_count {
             return false;
         }
-        let left = room - 12 * values;
-        tag < left && self.at < left - tag
+        let left = room - 12 * field_count;
+        tag_size < left && self.at < left - tag_size
     }
 
     // Puts a line: its tag, its fields, LF. One that does not fit changes nothing.

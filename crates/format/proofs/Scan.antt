@@ -11,7 +11,7 @@ use lib.Dec.{leb, ltb, eqb}
 use lib.ListN.{length, take, drop, get_or, length-drop, drop_of_length-le}
 use lib.Seq.{drop-cons}
 use borrow.Author.Tests.{ltb-true, leb-true, eqb-true, eqb-false, lt-ltb, le-leb, eq-eqb, ne_eqb, not-true}
-use Rattle.std.specs.Prelude.{Option, Some, None, is_some, IfSome}
+use Rattle.std.specs.Prelude.{Option, Some, None}
 use Rattle.std.proofs.lemmas.List.{length-take-le, get_or-take, get_or-drop}
 use Rattle.records.specs.Notation.{pick}
 use Rattle.format.specs.Steps.{continues}
@@ -207,10 +207,14 @@ module _ (l : List ℕ) (h : length l ≡ 8) where
     pub last-at : get_or s (length s - 1) 0 ≡ get_or l 7 0
     last-at = rw (e, h) refl
 
--- what `then` makes
-pub made-then : (o : Option ℕ) (b : Bool) (n : ℕ) (P : ℕ → Type 0) → is_some o ≡ b → IfSome o P → ((v : ℕ) → P v → v ≡ n) → o ≡ pick b (Some n) None
-made-then (Some v) b n P e p f = rw (← e) (ap Some (f v p))
-made-then None b n P e p f = rw (← e) refl
+-- what one more column makes
+pub column_stops : (t : Bool) (x : ℕ) → pick {A = Option ℕ} t (Some x) None ≡ None → t ≡ false
+column_stops true x e = let z : ◌≡◌ {A = ℕ} 0 1 = cc in absurd (omega arith)
+column_stops false x e = refl
+
+pub column_goes : (t : Bool) (x n : ℕ) → pick {A = Option ℕ} t (Some x) None ≡ Some n → (t ≡ true) × (n ≡ x)
+column_goes true x n e = (refl, cc)
+column_goes false x n e = let z : ◌≡◌ {A = ℕ} 0 1 = cc in absurd (omega arith)
 
 -- ---- N_D and N_K without a minus, and then with one
 small_plain : (q : Bool) (t : List ℕ) (n : ℕ) → written 32 t ≡ q → Some n ≡ pick q (Some (value 0 t)) None → n ≤ 9_999_999

@@ -2,7 +2,7 @@
 ghost use Rattle.std.specs.Prelude.{◌≡◌, true, false, ◌+◌, ◌≤◌, length, take, drop, ok_or};
 ghost use Rattle.format.specs.Spelling.{minus_of, field_of};
 
-use crate::spelling::{digits, goes_on, push, spells};
+use crate::spelling::{digits, spells, with_column};
 use records::ZERO_FORCE;
 use records::refusal::Refusal;
 
@@ -20,12 +20,9 @@ fn plain_number(columns: &[u8; 8]) -> Option<u64>
     };
     let mut number = 0;
     for column in middle {
-        if !goes_on(number, *column, false) {
-            return None;
-        }
-        number = push(number, *column);
+        number = with_column(number, *column, false)?;
     }
-    goes_on(number, *last, true).then(|| push(number, *last))
+    with_column(number, *last, true)
 }
 
 // The number of columns with a minus, counted from -20,000,000.

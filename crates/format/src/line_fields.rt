@@ -104,14 +104,11 @@ impl Iterator for Fields<'_> {
     #[tactic(auto, unfolding(crate::specs::Lines::field_at))]
     fn next(&mut self) -> Option<(usize, Result<u64, Refusal>)> {
         let line = self.held.line;
-        if self.j < line.kind.field_count() {
-            let (field, cursor) = self.cursor.field(line.file, is_force(line.kind, self.j));
-            let j = self.j;
-            *self = Fields {
-                held: self.held,
-                cursor,
-                j: j + 1,
-            };
+        let j = self.j;
+        if j < line.kind.field_count() {
+            let (field, cursor) = self.cursor.field(line.file, is_force(line.kind, j));
+            self.cursor = cursor;
+            self.j = j + 1;
             Some((j, field))
         } else {
             None

@@ -1,5 +1,6 @@
 // The spelling of a number in columns.
-ghost use Rattle.std.specs.Prelude.{◌≡◌, ◌<◌, length, replicate};
+ghost use Rattle.std.specs.Prelude.{◌≡◌, ◌<◌, length, replicate, Some, None};
+ghost use Rattle.records.specs.Notation.{pick};
 ghost use Rattle.format.specs.Spelling.{spelled, same, pushed, value};
 ghost use Rattle.format.specs.Steps.{continues};
 
@@ -39,20 +40,22 @@ pub(crate) fn spells(columns: &[u8; 8], sign: u8, n: u64) -> bool
     *columns == spelling
 }
 
-// A column may follow columns that make `number` and are blanks where that is 0; a number's first digit is no 0 unless it is its last.
-pub(crate) fn goes_on(number: u64, column: u8, last: bool) -> bool
-    ensures { result ≡ continues number column last }
+// The number with one more column, after columns that make `number` and are blanks where that is 0; none where the column may not follow them: a number's first digit
+// is no 0 unless it is its last.
+pub(crate) fn with_column(number: u64, column: u8, last: bool) -> Option<u64>
+    requires { number < 100_000_000 }
+    ensures { result ≡ pick (continues number column last) (Some (pushed number column)) None }
 {
     match column {
-        b' ' => !last && number == 0,
-        b'0' => last || 0 < number,
-        b'1'..=b'9' => true,
-        _ => false,
+        b' ' if !last && number == 0 => Some(0),
+        b'0' if last || 0 < number => Some(number * 10),
+        b'1'..=b'9' => Some(number * 10 + u64::from(column - b'0')),
+        _ => None,
     }
 }
 
 // The number with one more column.
-pub(crate) fn push(number: u64, column: u8) -> u64
+fn push(number: u64, column: u8) -> u64
     requires { number < 100_000_000 }
     ensures { result ≡ pushed number column }
 {

@@ -68,7 +68,7 @@ fn put_storey(writer: &mut ColumnWriter, form: Form, s: &Storey)
     }
 }
 
-// The D lines of a member. No `iter` over its cases: tried, and the proof did not close, as it finds no length of an array in a struct that is lent.
+// The D lines of a member. No `iter` over its cases: tried, and the proof did not close; the check finds no length of an array in a struct that is lent.
 fn put_cases(writer: &mut ColumnWriter, m: &Member)
     requires { HasRoom (length (cases_text m.now 0 4)) writer.old }
     ensures { Written (cases_text m.now 0 4) writer.old writer.new }
