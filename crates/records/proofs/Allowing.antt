@@ -3,13 +3,13 @@ use Prim.Native.Nat.{ℕ, zero, suc, ◌+◌, ◌≤◌, ◌<◌}
 use native.Mathlib.Omega.{arith}
 use native.Mathlib.Nat.{le_of_suc-le-suc, not-suc-le-zero}
 use mathlib.Core.Bool.{◌&&◌}
-use mathlib.Core.List.{List, [], ◌∷◌}
-use mathlib.Core.Path.{◌≡◌, refl, ap}
+use mathlib.Core.List.{List, [], ◌∷◌, ◌++◌}
+use mathlib.Core.Path.{◌≡◌, refl, sym, ap, ◌∙◌}
 use lib.Dec.{leb}
 use lib.ListN.{length, get_or, get_or-eq_default, get_or-append}
 use lib.Seq.{get_or-append-add}
 use Rattle.records.specs.Notation.{every_below}
-use Rattle.records.specs.Records.{Allowed, between, either, allows, never, ranges, fields, in_range, line_in_range, member_ranges, case_ranges}
+use Rattle.records.specs.Records.{Allowed, between, either, allows, never, ranges, fields, in_range, line_in_range, member_ranges, case_ranges, annex_e_range}
 use Rattle.records.specs.declared.Kind.{Kind}
 use Rattle.records.specs.declared.Kind.TheVariants.{B, S, M, S4, M4, D}
 use Rattle.records.proofs.Below.{every-same}
@@ -43,16 +43,12 @@ highs (either a b ∷ rs) = b ∷ highs rs
 pub in-member-tables : (j v : ℕ) → j < fields M → (leb (get_or (lows (ranges M 0)) j 0) v && leb v (get_or (highs (ranges M 0)) j 0)) ≡ allows (get_or (ranges M 0) j never) v
 in-member-tables j v h = at_table (lows (ranges M 0)) (highs (ranges M 0)) j v h refl
 
--- the first 18 fields of an M line, and its last 8
-pub member-field : (j : ℕ) → j < fields M4 → get_or (ranges M 0) j never ≡ get_or (ranges M4 0) j never
-member-field j h = get_or-append member_ranges case_ranges never j h
+-- the first 18 fields of an M line, and the 8 of a load case
+pub member-field : (j : ℕ) → j < 18 → get_or (ranges M 0) j never ≡ get_or (ranges M4 0) j never
+member-field j h = get_or-append member_ranges (case_ranges ++ (annex_e_range ∷ [])) never j h ∙ sym (get_or-append member_ranges (annex_e_range ∷ []) never j h)
 
-pub member-fields : (vs : List ℕ) → every_below (in_range M vs) (fields M4) ≡ line_in_range M4 vs
-member-fields vs = every-same (in_range M vs) (in_range M4 vs) (fields M4) (λ j h. ap (λ r. allows r (get_or vs j 0)) (member-field j h))
-
-pub case-field : (j : ℕ) → (j ≡ 0 → ⊥) → get_or (ranges M 0) (17 + j) never ≡ get_or (ranges D 0) j never
-case-field zero h = absurd (h refl)
-case-field (suc j) h = let e : 17 + suc j ≡ 18 + j = omega arith in rw e (get_or-append-add member_ranges case_ranges j never)
+pub case-field : (j : ℕ) → j < 8 → get_or (ranges M 0) (18 + j) never ≡ get_or case_ranges j never
+case-field j h = get_or-append-add member_ranges (case_ranges ++ (annex_e_range ∷ [])) j never ∙ get_or-append case_ranges (annex_e_range ∷ []) never j h
 
 -- no line has more fields than an M line
 pub fields-most : (kind : Kind) → fields kind ≤ fields M

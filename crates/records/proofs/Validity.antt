@@ -71,6 +71,7 @@ valid m e =
       shear = most _ _ _ (f 23 (omega arith));
       rotation = most _ _ _ (f 24 (omega arith));
       drift = most _ _ _ (f 25 (omega arith));
+      annex-e = most _ _ _ (f 26 (omega arith));
       sides = sides-fit m.short m.long o.1;
     }
 
