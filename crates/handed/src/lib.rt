@@ -45,6 +45,7 @@ fn case_given(values: &[u64], j: usize) -> LoadCase
 pub fn member_given(values: &[u64]) -> Member
     ensures { result ≡ member_handed values.now }
 {
+    let annex_e = value_or(values, CASE_AT, MISSING);
     let cases = array::from_fn(|c| case_given(values, MEMBER_CASES_FIELDS + 8 * c));
-    Member::with_cases(&values_of(values), value_or(values, CASE_AT, MISSING), cases)
+    Member::with_cases(&values_of(values), annex_e, cases)
 }

@@ -211,7 +211,11 @@ impl Class {
         ensures { result ≡ quarters self strengthened annex_e }
     {
         let column = if strengthened == 1 { 3 } else { 4 };
-        let wall = if strengthened == 1 && annex_e == 0 { 2 } else { 4 };
+        let wall = if strengthened == 1 && annex_e == 0 {
+            2
+        } else {
+            4
+        };
         match self {
             Class::ColumnA | Class::ColumnB => column,
             Class::WallB => wall,

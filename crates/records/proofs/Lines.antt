@@ -55,10 +55,6 @@ module _ (m : Member) (k : LoadCase) where
       (λ i h. case-fields n i h ∙ every-at (in_range D (n ∷ case_values k)) 9 (suc i) q (omega arith)))
       (every-at (in_range M4 (member_values m)) 19 18 r (omega arith))
 
--- where the fields that are the same in each case are in their ranges, a case is told by its own
-case-alone : (m : Member) (k l : LoadCase) → Ranged M (member_case_values (with_case m k)) → line_in_range M (member_case_values (with_case m l)) ≡ line_in_range D (1 ∷ case_values l)
-case-alone m k l r = both_ways _ _ (case-line m l 1 (omega arith) (omega arith)) (lines_join m l 1 (member-line m k r))
-
 line_of : (t : Bool) (m : Member) → Ranged M (member_case_values (in_case 0 m)) → Ranged (pick t M4 M) (pick t (member_values m) (member_case_values (in_case 0 m)))
 line_of true m r = member-line m (case_of 0 m) r
 line_of false m r = r

@@ -5,8 +5,9 @@ ghost use Rattle.records.specs.Records.{header_values, storey_values, member_val
 
 use crate::form::Form;
 use crate::{
-    CASE_AT, CASE_FIELDS, CASES, FIELDS_MOST, HEADER_FIELDS, Header, Kind, LoadCase, MEMBER_CASES_FIELDS,
-    MEMBER_FIELDS, Member, MemberCase, STOREY_CASES_FIELDS, STOREY_FIELDS, Storey, ZERO_FORCE,
+    CASE_AT, CASE_FIELDS, CASES, FIELDS_MOST, HEADER_FIELDS, Header, Kind, LoadCase,
+    MEMBER_CASES_FIELDS, MEMBER_FIELDS, Member, MemberCase, STOREY_CASES_FIELDS, STOREY_FIELDS,
+    Storey, ZERO_FORCE,
 };
 use std::array;
 
