@@ -10,7 +10,7 @@ use crate::{Member, Motion, Storey};
 use std::sync::OnceLock;
 
 /// The form of the calls that this package knows.
-pub const VERSION: u64 = 7;
+pub const VERSION: u64 = 8;
 
 /// Returned where `out` is too short for a call's values; no refusal has this number.
 pub const SHORT: u64 = 255;
@@ -216,7 +216,7 @@ pub fn judge_storey(k: u64, form: u64, storey: &[u64], members: &[Member], out: 
     }
 }
 
-/// Judges a building. Values: tilt above 25,000, Risky, a Risky storey's place or 0.
+/// Judges a building. Values: tilt above 25,000, Risky, the first Risky storey's place and its lowest numbered Risky case, or 0 and 0.
 pub fn judge_building(header: &[u64], storeys: &[Storey], members: &[Member], out: &mut [u64]) -> u64 {
     expect_version();
     unsafe {
