@@ -34,7 +34,7 @@ pub const STOREY_CASE_VALUES: usize = 11;
 pub const STOREY_VALUES: usize = 45;
 
 /// How many values [`judge_building`] puts out.
-pub const BUILDING_VALUES: usize = 3;
+pub const BUILDING_VALUES: usize = 4;
 
 /// How many values [`report`] puts out.
 pub const REPORT_VALUES: usize = 1;
