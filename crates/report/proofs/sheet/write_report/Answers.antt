@@ -33,9 +33,6 @@ returns-then-out-sheet_size c =
     let fault = too-long a _ (none at) h in
     record { answer = answer-refused a SheetTooLong _ fault; out_after = buffer-refused a SheetTooLong c.args.out.now fault }
 
-pub put_sheet-requires : goal.put_sheet-requires
-put_sheet-requires c = omega (arith, ap length c.new-writer.ensures.bytes)
-
 pub returns : goal.returns
 returns c =
     let at = (goal.at.returns c).In_ok-good in

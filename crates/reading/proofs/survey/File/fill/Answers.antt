@@ -1,7 +1,7 @@
 use native.Mathlib.Omega.{arith}
 use mathlib.Core.Path.{◌≡◌, ◌∙◌}
 use Rattle.records.specs.Forms.{form_number}
-use Rattle.reading.proofs.Filling.{before-none, storey-small, storey-sound, storey-is, before-next, members-small, members-held, members-sound, filled_none, filled_next}
+use Rattle.reading.proofs.Filling.{before-none, storey-small, storey-is, before-next, members-small, members-held, members-sound, filled_none, filled_next}
 use Rattle.records.specs.Blank.{no_storey, no_member}
 use Rattle.std.proofs.Common.{rules, length}
 use Rattle.reading.proofs.Placed.{placed-none, placed-step, placed-all, placed-part, part-length}
@@ -16,12 +16,6 @@ invariant_of-place c =
     let l = c.loop-i in
     let k = storey-small (form_number s.form) s.bytes.now _ c.requires.fits l.i l.m (omega arith) l.invariant.0 in
     record { few_storeys = omega arith; few_members = omega arith }
-
-pub storey_at-storey-requires : goal.storey_at-storey-requires
-storey_at-storey-requires c =
-    let s = c.args.self.now in
-    let l = c.loop-i in
-    storey-sound (form_number s.form) s.bytes.now _ c.requires.fits l.i l.m (omega arith) l.invariant.0
 
 pub slice_bounds-fill_members-end : goal.slice_bounds-fill_members-end
 slice_bounds-fill_members-end c =

@@ -6,18 +6,10 @@ use Rattle.members.specs.Finding.{finding}
 use Rattle.checks.proofs.RowLoops.{member-at}
 use Rattle.storeys.specs.Tally.{with_member, AddsUp}
 use Rattle.storeys.proofs.Rows.{with-good}
-use Rattle.storeys.proofs.Loops.{row-good, going-none, tally-room, going_next, going-all}
-use Rattle.columns.proofs.Written.{all-left, part-put, none-left, rest-fits}
+use Rattle.storeys.proofs.Loops.{row-good, tally-room, going_next, going-all}
+use Rattle.columns.proofs.Written.{part-put, none-left, rest-fits}
 use Rattle.report.proofs.Rows.{member-room, members-left, members-end}
 use Rattle.report.proofs.printed.StoreyCase.put_members.Goals as goal
-
-pub loop-m-init : goal.loop-m-init
-loop-m-init c =
-    let s = c.args.self.now in
-    record {
-      totals = rw c.none-tally.ensures (going-none s.good.level.hundredths c.args.met s.case s.good.members.now);
-      left = all-left _ c.args.writer.now;
-    }
 
 pub invariant_of-one : goal.invariant_of-one
 invariant_of-one c =

@@ -5,11 +5,8 @@ use Rattle.records.proofs.Validity.{valid}
 use Rattle.checks.proofs.RowLoops.{member-at}
 use Rattle.storeys.specs.Tally.{with_member, AddsUp}
 use Rattle.storeys.proofs.Rows.{with-good}
-use Rattle.storeys.proofs.Loops.{row-good, going-none, tally-room, going_next, going-all}
+use Rattle.storeys.proofs.Loops.{row-good, tally-room, going_next, going-all}
 use Rattle.storeys.proofs.good_storey.GoodStorey.tally.Goals as goal
-
-pub loop-m-init : goal.loop-m-init
-loop-m-init c = rw c.none-tally.ensures (going-none c.args.self.now.level.hundredths c.args.met c.args.c c.args.self.now.members.now)
 
 pub invariant_of-one : goal.invariant_of-one
 invariant_of-one c =
