@@ -68,7 +68,7 @@ needed_survey g =
           ∷ [];
     }
 
--- columns with k, W, f_cm, hooks, the mark, N_K, M_e, V_r and rotation; walls with N_K, M_e, V_r, V and drift; with k 100 m is 1,000 × M_e
+-- columns with k, W, f_cm, hooks, strengthened, N_K, M_e, V_r and rotation; walls with N_K, M_e, V_r, V and drift; with k 100 m is 1,000 × M_e
 abbrev pub needed_column : ℕ → ℕ → ℕ → ℕ → ℕ → ℕ → ℕ → ℕ → ℕ → Given
 needed_column k w fcm hooks strengthened nk me vr rotation =
     record {

@@ -9,7 +9,7 @@ ghost use Rattle.handed.specs.Handed.{handed, header_handed, storey_handed, memb
 
 use records::form::Form;
 use records::numbers::value_or;
-use records::{CASE_AT, FIELDS_MOST, Header, LoadCase, MEMBER_CASES_FIELDS, Member, Storey};
+use records::{FIELDS_MOST, Header, LoadCase, MEMBER_CASES_FIELDS, Member, Storey};
 use std::array;
 
 // What stands for a number that is not given.
@@ -45,7 +45,7 @@ fn case_given(values: &[u64], j: usize) -> LoadCase
 pub fn member_given(values: &[u64]) -> Member
     ensures { result ≡ member_handed values.now }
 {
-    let annex_e = value_or(values, CASE_AT, MISSING);
+    let annex_e = value_or(values, MEMBER_CASES_FIELDS - 1, MISSING);
     let cases = array::from_fn(|c| case_given(values, MEMBER_CASES_FIELDS + 8 * c));
     Member::with_cases(&values_of(values), annex_e, cases)
 }

@@ -8,8 +8,8 @@ ghost use Rattle.ranges.specs.Rows.{row, rows};
 
 use records::numbers::value_or;
 use records::{
-    CASE_AT, CASE_FIELDS, CASES, HEADER_FIELDS, Kind, MEMBER_FIELDS, STOREY_CASES_FIELDS,
-    STOREY_FIELDS,
+    CASE_AT, CASE_FIELDS, CASES, HEADER_FIELDS, Kind, MEMBER_CASES_FIELDS, MEMBER_FIELDS,
+    STOREY_CASES_FIELDS, STOREY_FIELDS,
 };
 
 // The least and the greatest number that a field may hold.
@@ -158,7 +158,7 @@ fn header_allows(j: usize, v: u64, storeys: u64) -> bool
     }
 }
 
-// Field j of an M line of the old form, and of one of the form of four cases.
+// Field j of an M line of the old form.
 fn member_allows(j: usize, v: u64) -> bool
     ensures { result ≡ allows (get_or (ranges M 0) j never) v }
 {
@@ -171,13 +171,14 @@ fn member_allows(j: usize, v: u64) -> bool
     field_allows(&ANNEX_E, j - (MEMBER_FIELDS - 1), v)
 }
 
+// Field j of an M line of the form of four cases.
 fn member_cases_allows(j: usize, v: u64) -> bool
     ensures { result ≡ allows (get_or (ranges M4 0) j never) v }
 {
     if j < CASE_AT {
         return field_allows(&MEMBER, j, v);
     }
-    field_allows(&ANNEX_E, j - CASE_AT, v)
+    field_allows(&ANNEX_E, j - (MEMBER_CASES_FIELDS - 1), v)
 }
 
 // Field j of a D line.

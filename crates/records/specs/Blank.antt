@@ -1,4 +1,4 @@
--- What stands past the rows: a record of zeros.
+-- What stands past the rows: a record of zeros, the cases that it lacks with the force 0.
 use Rattle.records.specs.declared.{Storey.Storey, Member.Member}
 use Rattle.records.specs.Records.{storey_by, old_member}
 
