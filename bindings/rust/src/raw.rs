@@ -300,8 +300,8 @@ mod tests {
     }
 
     #[test]
-    #[should_panic(expected = "the linked library has version 8 of the calls, this package version 7")]
+    #[should_panic(expected = "the linked library has version 9 of the calls, this package version 8")]
     fn another_version() {
-        expect(8);
+        expect(9);
     }
 }
