@@ -31,7 +31,7 @@ extern "C" {
  * The form of the calls as this header has it. A program holds it against llunareth_version() once, before any other call: each change of a
  * call, and each call that is added, raises it.
  */
-#define LLUNARETH_VERSION 6
+#define LLUNARETH_VERSION 7
 
 /* The forms of a survey. */
 enum {
@@ -47,7 +47,7 @@ enum {
     LLUNARETH_HEADER_NUMBERS = 7,
     LLUNARETH_STOREY_NUMBERS = 6,
     LLUNARETH_CASE_NUMBERS = 8,
-    LLUNARETH_MEMBER_NUMBERS = 50
+    LLUNARETH_MEMBER_NUMBERS = 51
 };
 
 /* N_D and N_K are counted from -20,000,000: this number stands for 0. A force handed in as it is, is refused by 3. */
@@ -86,7 +86,7 @@ enum {
 };
 
 /* The longest file that llunareth_write writes: 10 storeys of 200 members in four load cases. */
-enum { LLUNARETH_WRITE_MOST = 884550 };
+enum { LLUNARETH_WRITE_MOST = 900550 };
 
 /* The S line. */
 struct llunareth_storey {
@@ -136,6 +136,7 @@ struct llunareth_member {
     uint64_t factor;       /* reduction factor, hundredths */
     uint64_t damage;       /* worst damage kind, 0 to 4 */
     uint64_t nd;           /* N_D, 0.1 kN, counted from -20,000,000 */
+    uint64_t annex_e;      /* detailed to annex E, 0 or 1; only a strengthened wall reads it */
     struct llunareth_load_case cases[LLUNARETH_CASES];
 };
 
@@ -147,7 +148,7 @@ struct llunareth_member {
 #ifdef LLUNARETH_ASSERT
 LLUNARETH_ASSERT(sizeof(struct llunareth_storey) == 8 * LLUNARETH_STOREY_NUMBERS, "a storey row is 6 numbers");
 LLUNARETH_ASSERT(sizeof(struct llunareth_load_case) == 8 * LLUNARETH_CASE_NUMBERS, "a load case is 8 numbers");
-LLUNARETH_ASSERT(sizeof(struct llunareth_member) == 8 * LLUNARETH_MEMBER_NUMBERS, "a member row is 50 numbers");
+LLUNARETH_ASSERT(sizeof(struct llunareth_member) == 8 * LLUNARETH_MEMBER_NUMBERS, "a member row is 51 numbers");
 #undef LLUNARETH_ASSERT
 #endif
 
@@ -300,7 +301,7 @@ uint64_t llunareth_report(const uint64_t *header, size_t header_len, const struc
 
 /*
  * Writes a survey, given as for its judgment, as a file from the front of the bytes `file`; those after it are left alone. It has 50 bytes,
- * 26 for each storey and 210 for each member, in four cases 50 and 442, at most LLUNARETH_WRITE_MOST; no byte 0 is put after it. Read back
+ * 26 for each storey and 218 for each member, in four cases 50 and 450, at most LLUNARETH_WRITE_MOST; no byte 0 is put after it. Read back
  * into rows that hold it, it gives the same records. Refused as the judgment is, then by 11 where the file does not fit: all bytes are left
  * alone.
  */

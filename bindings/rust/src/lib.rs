@@ -90,6 +90,7 @@ pub fn storey_fault(form: u64, storey: &Storey) -> Result<(), Refusal> {
 /// assert!(member_fault(OLD_FORM, &member).is_ok());
 /// assert_eq!(member_fault(OLD_FORM, &Member { short: 301, ..member }).unwrap_err().number, 4);
 /// assert_eq!(member_fault(OLD_FORM, &Member { nd: 0, ..member }).unwrap_err().number, 3);
+/// assert_eq!(member_fault(OLD_FORM, &Member { annex_e: 2, ..member }).unwrap_err().number, 3);
 /// let zeros = Member { cases: [member.cases[0], LoadCase::default(), LoadCase::NONE, LoadCase::NONE], ..member };
 /// assert_eq!(member_fault(OLD_FORM, &zeros).unwrap_err().number, 3);
 /// # Ok::<(), Box<dyn std::error::Error>>(())
@@ -206,7 +207,7 @@ pub fn report<'a>(header: &Header, storeys: &[Storey], members: &[Member], sheet
 }
 
 /// Writes a survey, given as for its judgment, as a file to the front of the bytes; those after it are left alone. It has 50 bytes, 26 for each
-/// storey and 210 for each member, in four cases 50 and 442, at most [`WRITE_MOST`]. Read back into rows that hold it, it gives the same records.
+/// storey and 218 for each member, in four cases 50 and 450, at most [`WRITE_MOST`]. Read back into rows that hold it, it gives the same records.
 /// Refused as the judgment is, then by 11 where the file does not fit: all bytes are left alone.
 ///
 /// ```

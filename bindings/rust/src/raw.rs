@@ -1,5 +1,5 @@
 //! The calls as the proved library has them: slices of any length in, and numbers out, as in `bindings/c/llunareth.h`. A record handed in as
-//! numbers has them in the order of its line; one that lacks a number is refused.
+//! numbers has them in the order of its struct; one that lacks a number is refused.
 //!
 //! A call with an `out` returns refusal and line in one number ([`LINE_UNIT`]), 0 where it is accepted. Accepted, it puts its values, and only
 //! these, to the front of `out`. Refused, it leaves everything that was lent as it was. Where `out` is too short for its values, it returns
@@ -10,7 +10,7 @@ use crate::{Member, Motion, Storey};
 use std::sync::OnceLock;
 
 /// The form of the calls that this package knows.
-pub const VERSION: u64 = 6;
+pub const VERSION: u64 = 7;
 
 /// Returned where `out` is too short for a call's values; no refusal has this number.
 pub const SHORT: u64 = 255;
@@ -300,8 +300,8 @@ mod tests {
     }
 
     #[test]
-    #[should_panic(expected = "the linked library has version 7 of the calls, this package version 6")]
+    #[should_panic(expected = "the linked library has version 8 of the calls, this package version 7")]
     fn another_version() {
-        expect(7);
+        expect(8);
     }
 }

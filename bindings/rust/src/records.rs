@@ -13,7 +13,7 @@ pub const ROTATION_SCALE: u64 = 1_000_000;
 pub const FORCE_SCALE: u64 = 10;
 
 /// The bytes of the longest file that [`write`](crate::write) writes: 10 storeys of 200 members in four load cases.
-pub const WRITE_MOST: usize = 884_550;
+pub const WRITE_MOST: usize = 900_550;
 
 /// Bytes that hold every sheet that [`determine`](crate::determine) puts out.
 pub const SHEET_MOST: usize = 128_906;
@@ -29,7 +29,7 @@ pub const CASES: usize = 4;
 pub const HEADER_NUMBERS: usize = 7;
 pub const STOREY_NUMBERS: usize = 6;
 pub const CASE_NUMBERS: usize = 8;
-pub const MEMBER_NUMBERS: usize = 50;
+pub const MEMBER_NUMBERS: usize = 51;
 
 /// The B line.
 #[repr(C)]
@@ -98,6 +98,8 @@ pub struct Member {
     pub damage: u64,
     /// N_D, counted from -20,000,000 ([`ZERO_FORCE`]).
     pub nd: u64,
+    /// Detailed to annex E, 0 or 1; only a strengthened wall reads it.
+    pub annex_e: u64,
     /// The cases that the form lacks are [`LoadCase::NONE`].
     pub cases: [LoadCase; CASES],
 }

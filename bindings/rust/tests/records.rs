@@ -22,16 +22,16 @@ const ONCE: usize = MEMBER_NUMBERS - CASES * CASE_NUMBERS;
 fn member(numbers: [u64; MEMBER_NUMBERS]) -> Member {
     let (once, cases) = numbers.split_at(ONCE);
     let [
-        number, long, short, area, fcm, fctm, fyw, depth, height, spacing, core, hoops, hooks, zone, strengthened, factor, damage, nd,
+        number, long, short, area, fcm, fctm, fyw, depth, height, spacing, core, hoops, hooks, zone, strengthened, factor, damage, nd, annex_e,
     ] = <[u64; ONCE]>::try_from(once).expect("so many numbers");
     let (cases, _) = cases.as_chunks::<CASE_NUMBERS>();
     let cases = [cases[0], cases[1], cases[2], cases[3]].map(load_case);
     Member {
-        number, long, short, area, fcm, fctm, fyw, depth, height, spacing, core, hoops, hooks, zone, strengthened, factor, damage, nd, cases,
+        number, long, short, area, fcm, fctm, fyw, depth, height, spacing, core, hoops, hooks, zone, strengthened, factor, damage, nd, annex_e, cases,
     }
 }
 
-/// 1, 2, 3 and so on: each field holds its own place in the line.
+/// 1, 2, 3 and so on: each field holds its own place in the record.
 fn places<const N: usize>() -> [u64; N] {
     std::array::from_fn(|j| j as u64 + 1)
 }
@@ -110,10 +110,13 @@ fn stored_records(form: u64, file: &[u8]) -> Stored {
                 records.storeys.push(numbers.try_into().expect("so many numbers"));
             }
             b'M' => {
-                let mut numbers: Vec<u64> = fields[..ONCE - 1].iter().map(|&v| stored(v)).collect();
-                numbers.push(stored_force(fields[ONCE - 1]));
+                // Before N_D, N_D, in the old form the case, and the last field.
+                let (before, rest) = fields.split_at(ONCE - 2);
+                let (case, last) = rest[1..].split_at(rest.len() - 2);
+                let mut numbers: Vec<u64> = before.iter().map(|&v| stored(v)).collect();
+                numbers.extend([stored_force(rest[0]), stored(last[0])]);
                 if form == OLD_FORM {
-                    numbers.extend(case_numbers(&fields[ONCE..]));
+                    numbers.extend(case_numbers(case));
                     numbers.extend([<[u64; CASE_NUMBERS]>::from(LoadCase::NONE); CASES - 1].as_flattened());
                 }
                 members.push(numbers);

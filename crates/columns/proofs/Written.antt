@@ -20,10 +20,6 @@ use Rattle.columns.proofs.Stamps.{kept-length, length-stamped, stamped-part, len
 pub same_room : (text : List ℕ) (before after : ColumnWriter) → Written text before after → length after.bytes.now ≡ length before.bytes.now
 same_room text before after w = kept-length after.bytes.now before.bytes.now before.at text w.bytes
 
--- nothing put
-pub none-written : (w : ColumnWriter) → Written [] w w
-none-written w = record { same_bytes = refl; bytes = sym (stamped-none w.bytes.now w.at); at = omega arith }
-
 -- one text after another
 pub both-written : (xs ys : List ℕ) (a b c : ColumnWriter) → Written xs a b → Written ys b c → Written (xs ++ ys) a c
 both-written xs ys a b c p q = record {

@@ -62,6 +62,7 @@ member g =
       factor = 100;
       damage = g.damage;
       nd = g.nd;
+      annex_e = 1;
       cases = case g ∷ no_case ∷ no_case ∷ no_case ∷ [];
     }
 
@@ -118,6 +119,7 @@ worse g h long short strengthened wall-shear nd nk ve shear damage hoops wall-cl
       hooks = refl;
       zone = refl;
       strengthened = strengthened;
+      annex-e = refl;
       wall-shear = wall-shear;
       nd = nd;
       nk = nk;

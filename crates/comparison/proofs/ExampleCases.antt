@@ -48,6 +48,7 @@ column a b c d =
       factor = 100;
       damage = 0;
       nd = zero_force + 3_000;
+      annex_e = 0;
       cases = load_case a ∷ load_case b ∷ load_case c ∷ load_case d ∷ [];
     }
 
@@ -88,6 +89,7 @@ case-worse x y h =
       hooks = refl;
       zone = refl;
       strengthened = refl;
+      annex-e = refl;
       wall-shear = λ e. refl;
       nd = omega arith;
       nk = omega arith;

@@ -109,10 +109,11 @@ pub record AtLeastAsSevereIn (walls : WallCondition) (k : ℕ) (m n : MemberCase
   pub fcm : m.fcm ≡ n.fcm
   pub fctm : m.fctm ≡ n.fctm
   pub fyw : m.fyw ≡ n.fyw
-  -- "marks": 13 to 15
+  -- "marks": 13 to 15; "the new field counts among the equal marks" (document 02, N6)
   pub hooks : m.hooks ≡ n.hooks
   pub zone : m.zone ≡ n.zone
   pub strengthened : m.strengthened ≡ n.strengthened
+  pub annex-e : m.annex_e ≡ n.annex_e
   -- "wall shears": 24 of walls
   pub wall-shear : is_wall m ≡ true → m.case.shear ≡ n.case.shear
   -- "no axial load, moment demand, V_e, rotation, drift, .. column shear or damage is lower": 18 and 19, which are held in the order of the signed

@@ -16,6 +16,7 @@ pub record Given : Type 0 where
   pub fyw : ℕ
   pub hooks : ℕ
   pub strengthened : ℕ
+  pub annex_e : ℕ
   pub nk : ℕ
   pub me : ℕ
   pub ve : ℕ
@@ -50,6 +51,7 @@ needed_survey g =
             factor = 100;
             damage = 0;
             nd = zero_force;
+            annex_e = g.annex_e;
             cases =
                 record {
                   nk = zero_force + g.nk;
@@ -66,7 +68,7 @@ needed_survey g =
           ∷ [];
     }
 
--- columns with k, W, f_cm, hooks, the mark, N_K, M_e, V_r and rotation; walls with N_K, M_e, V_r, V and drift; with k 100 m is 100 × M_e
+-- columns with k, W, f_cm, hooks, strengthened, N_K, M_e, V_r and rotation; walls with N_K, M_e, V_r, V and drift; with k 100 m is 1,000 × M_e
 abbrev pub needed_column : ℕ → ℕ → ℕ → ℕ → ℕ → ℕ → ℕ → ℕ → ℕ → Given
 needed_column k w fcm hooks strengthened nk me vr rotation =
     record {
@@ -78,6 +80,7 @@ needed_column k w fcm hooks strengthened nk me vr rotation =
       fyw = 1_846;
       hooks = hooks;
       strengthened = strengthened;
+      annex_e = 0;
       nk = nk;
       me = me;
       ve = 100;
@@ -98,6 +101,7 @@ needed_wall nk me vr shear drift =
       fyw = 1_846;
       hooks = 0;
       strengthened = 0;
+      annex_e = 0;
       nk = nk;
       me = me;
       ve = 900;
@@ -105,6 +109,28 @@ needed_wall nk me vr shear drift =
       shear = shear;
       rotation = 0;
       drift = drift;
+    }
+
+-- a strengthened wall of class B, detailed to annex E or not
+abbrev pub needed_strengthened : ℕ → Given
+needed_strengthened annex_e =
+    record {
+      k = 100;
+      storey_shear = 1_000;
+      long = 1_000;
+      short = 100;
+      fcm = 100;
+      fyw = 1_846;
+      hooks = 0;
+      strengthened = 1;
+      annex_e = annex_e;
+      nk = 0;
+      me = 300;
+      ve = 900;
+      vr = 900;
+      shear = 1_000;
+      rotation = 0;
+      drift = 7_500;
     }
 
 -- two surveys, the second worse but for one condition
@@ -131,6 +157,8 @@ needed =
     ∷ pair (needed_wall 1_000 470 901 1_000 7_500) (needed_wall 1_000 470 900 1_000 7_500)
     -- equal wall shears: with 400 of 1,000 the m test is dropped
     ∷ pair (needed_wall 0 999 901 399 0) (needed_wall 0 999 901 400 0)
+    -- "the new field counts among the equal marks" (document 02, N6): 250,000 where the wall is not detailed to annex E, 500,000 where it is
+    ∷ pair (needed_strengthened 0) (needed_strengthened 1)
     ∷ []
 
 -- the refusal, tilt and Risky that the call on a building answers

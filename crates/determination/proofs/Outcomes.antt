@@ -3,9 +3,9 @@ use Prim.Native.Nat.{ℕ, ◌<◌, ◌≤◌}
 use native.Mathlib.Omega.{arith}
 use mathlib.Core.Bool.{Bool, true, false}
 use mathlib.Core.List.{List, [], ◌++◌}
-use mathlib.Core.Path.{◌≡◌, refl, sym, ap, ◌∙◌}
+use mathlib.Core.Path.{◌≡◌, refl, sym, ◌∙◌}
 use lib.Dec.{leb, eqb}
-use lib.ListN.{length, take, drop, length-append}
+use lib.ListN.{length, take, drop}
 use lib.Seq.{take-append_seam}
 use borrow.Author.Tests.{eq-eqb, eqb-true, ne_eqb, le-leb, lt-leb}
 use Rattle.records.specs.declared.Header.{Header}
@@ -50,13 +50,6 @@ module _ (h : Header) (n m : ℕ) (sb sa : List Storey) (mb ma : List Member) wh
       let z : m ≡ length a.members = cc in
       rw (e, f, x, y, z, s, g) refl
   rows-filled (refused r line) t e f = let z : ◌≡◌ {A = ℕ} 0 1 = cc in absurd (omega arith)
-
-  pub rows-held : (o : Outcome) → filled h n m ≡ told o → sa ≡ storeys_after_call o sb → ma ≡ members_after_call o mb → (n ≤ length sa) × (m ≤ length ma)
-  rows-held (accepted a) t e f =
-      let y : n ≡ length a.storeys = cc in
-      let z : m ≡ length a.members = cc in
-      (omega (arith, y, ap length e, length-append a.storeys (drop (length a.storeys) sb)), omega (arith, z, ap length f, length-append a.members (drop (length a.members) mb)))
-  rows-held (refused r line) t e f = let z : ◌≡◌ {A = ℕ} 0 1 = cc in absurd (omega arith)
 
 pub line-refused : (o : Outcome) (n line : ℕ) → refusal n line ≡ told o → o ≡ refused n line
 line-refused (accepted a) n line t = let z : ◌≡◌ {A = ℕ} 0 1 = cc in absurd (omega arith)

@@ -47,6 +47,7 @@ edge_member v =
       factor = 100;
       damage = v.damage;
       nd = zero_force + v.nd;
+      annex_e = 0;
       cases =
           record { nk = zero_force + v.nk; me = v.me; mp = 100; ve = v.ve; vr = v.vr; shear = v.shear; rotation = 0; drift = 0 }
           ∷ no_case ∷ no_case ∷ no_case ∷ [];

@@ -13,7 +13,7 @@ use Rattle.storeys.specs.Building.{Answers, returned_building}
 
 -- the form of the calls: a change of one raises it
 abbrev pub version : ℕ
-version = 6
+version = 7
 
 -- how many values each call puts to the front of `out`; on a member and on a storey at most: those of four cases
 abbrev pub reading_count : ℕ

@@ -22,7 +22,7 @@ const STOREY_COUNT: usize = 45;
 
 const BUILDING_COUNT: usize = 3;
 
-// A member of a form, given by its fifty numbers, judged with k and whether its storey meets the 0.40 condition in each case; those of cases that the form lacks are not looked at.
+// A member of a form, given by its fifty-one numbers, judged with k and whether its storey meets the 0.40 condition in each case; those of cases that the form lacks are not looked at.
 #[unsafe(no_mangle)]
 pub extern "C" fn llunareth_judge_member(
     k: u64,

@@ -6,13 +6,13 @@ use mathlib.Core.List.{List}
 use mathlib.Core.Path.{◌≡◌, refl, ap, ◌∙◌}
 use lib.ListN.{length, get_or}
 use Rattle.format.specs.Lines.{value_at, header_at, storey_at, case_at, cases_at, member_at}
-use Rattle.records.specs.Records.{fields, in_cases, storey_kind, member_kind, header_by, storey_by, case_by, old_cases, member_by}
+use Rattle.records.specs.Records.{fields, last_field, in_cases, storey_kind, member_kind, header_by, storey_by, case_by, old_cases, member_by}
 use Rattle.records.specs.declared.Header.{Header}
 use Rattle.records.specs.declared.Storey.{Storey}
 use Rattle.records.specs.declared.LoadCase.{LoadCase}
 use Rattle.records.specs.declared.Member.{Member}
 use Rattle.records.specs.declared.Kind.{Kind}
-use Rattle.records.specs.declared.Kind.TheVariants.{B, M, M4, D}
+use Rattle.records.specs.declared.Kind.TheVariants.{B, M, D}
 use Rattle.records.proofs.Lines.{numbers}
 
 -- ---- records of the same numbers
@@ -43,8 +43,8 @@ case_same f g k h =
       h 7 (omega arith),
     )
 
-pub member-same : (f g : ℕ → ℕ) (cases : List LoadCase) → ((j : ℕ) → j < fields M4 → f j ≡ g j) → member_by f cases ≡ member_by g cases
-member-same f g cases h =
+pub member-same : (f g : ℕ → ℕ) (annex_e : ℕ) (cases : List LoadCase) → ((j : ℕ) → j < 18 → f j ≡ g j) → member_by f annex_e cases ≡ member_by g annex_e cases
+member-same f g annex_e cases h =
     rw (
       h 0 (omega arith),
       h 1 (omega arith),
@@ -66,8 +66,8 @@ member-same f g cases h =
       h 17 (omega arith),
     )
 
--- the M lines of both forms have them
-first-fields : (t : Bool) (form : ℕ) → in_cases form ≡ t → fields M4 ≤ fields (member_kind form)
+-- the M lines of both forms have them, and one more
+first-fields : (t : Bool) (form : ℕ) → in_cases form ≡ t → 19 ≤ fields (member_kind form)
 first-fields true form e = rw e (omega arith)
 first-fields false form e = rw e (omega arith)
 
@@ -95,10 +95,14 @@ module _ (s : List ℕ) (at : ℕ) (vs : List ℕ) where
       let k = rw q at o in
       rw (q, case_same (λ (j : ℕ). get_or vs j 0) (value_at M s at) 18 (λ j l. k (18 + j) (omega arith)))
 
-  pub member-held : (form : ℕ) (h : Member) (cases : List LoadCase) → Values (member_kind form) → cases ≡ cases_at form s at → h ≡ member_by (λ (j : ℕ). get_or vs j 0) cases → h ≡ member_at form s at
+  pub member-held : (form : ℕ) (h : Member) (cases : List LoadCase) → Values (member_kind form) → cases ≡ cases_at form s at → h ≡ member_by (λ (j : ℕ). get_or vs j 0) (get_or vs (last_field (member_kind form)) 0) cases → h ≡ member_at form s at
   unfolding member_at
   member-held form h cases o q e =
-      e ∙ rw q (member-same (λ (j : ℕ). get_or vs j 0) (value_at (member_kind form) s at) (cases_at form s at) (λ j l. o j (omega (arith, first-fields (in_cases form) form refl))))
+      let n = first-fields (in_cases form) form refl in
+      let last = last_field (member_kind form) in
+      e
+      ∙ ap (λ d. member_by (λ (j : ℕ). get_or vs j 0) d cases) (o last (omega (arith, n)))
+      ∙ rw q (member-same (λ (j : ℕ). get_or vs j 0) (value_at (member_kind form) s at) (value_at (member_kind form) s at last) (cases_at form s at) (λ j l. o j (omega (arith, n))))
 
 -- ---- how many numbers there are
 pub length-numbers : (f : ℕ → ℕ) (k n : ℕ) → length (numbers f k n) ≡ n

@@ -3,7 +3,7 @@
 use Rattle.std.specs.Prelude.{◌+◌, ◌*◌, ◌<◌, ◌&&◌, ◌||◌, ◌∷◌, ◌≡◌, Option, Some, None, unwrap_or}
 use Rattle.records.specs.Notation.{ℕ, suc, Bool, true, false, List, [], leb, ltb, eqb, length, get_or, take, drop, pick, every_below, first}
 use Rattle.records.specs.declared.{Header.Header, Storey.Storey, LoadCase.LoadCase, Member.Member, Kind.Kind, Kind.TheVariants.B, Kind.TheVariants.S, Kind.TheVariants.M, Kind.TheVariants.S4, Kind.TheVariants.M4, Kind.TheVariants.D}
-use Rattle.records.specs.Records.{Allowed, allows, never, ranges, fields, in_cases, storey_kind, member_kind, header_by, storey_by, case_by, old_cases, member_by}
+use Rattle.records.specs.Records.{Allowed, allows, never, ranges, fields, last_field, in_cases, storey_kind, member_kind, header_by, storey_by, case_by, old_cases, member_by}
 use Rattle.format.specs.Spelling.{field_of}
 
 -- "its tag in column 1, a byte B, S or M"; D of a load case (document 02, N3)
@@ -104,11 +104,12 @@ member_size form = line_size (member_kind form) + line_size D * case_lines form
 unfoldable pub case_at : List ℕ → ℕ → LoadCase
 case_at s at = case_by (value_at D s at) 1
 
--- the cases of the M line at `at`: its own last fields, or its D lines
+-- the cases of the M line at `at`: its own fields 19 to 26, or its D lines
 abbrev pub cases_at : ℕ → List ℕ → ℕ → List LoadCase
 cases_at form s at =
     pick (in_cases form) (case_at s (case_start at 0) ∷ case_at s (case_start at 1) ∷ case_at s (case_start at 2) ∷ case_at s (case_start at 3) ∷ [])
     (old_cases (value_at M s at))
 
+-- its last field tells whether it is detailed to annex E (document 02, N6)
 unfoldable pub member_at : ℕ → List ℕ → ℕ → Member
-member_at form s at = member_by (value_at (member_kind form) s at) (cases_at form s at)
+member_at form s at = member_by (value_at (member_kind form) s at) (value_at (member_kind form) s at (last_field (member_kind form))) (cases_at form s at)

@@ -12,7 +12,7 @@ abbrev pub handed : List ℕ → ℕ → ℕ
 handed values j = get_or values j missing
 
 -- a header's are those of its line and its form; a storey's its number, its four shears and its count; a member's the first 18 fields
--- of its line and eight for each of its four cases
+-- of its line, whether it is detailed to annex E, and eight for each of its four cases
 abbrev pub header_handed : List ℕ → Header
 header_handed values = header_by (handed values 6) (handed values)
 
@@ -21,4 +21,5 @@ storey_handed values = storey_by 2 (handed values)
 
 abbrev pub member_handed : List ℕ → Member
 member_handed values =
-    member_by (handed values) (case_by (handed values) 18 ∷ case_by (handed values) 26 ∷ case_by (handed values) 34 ∷ case_by (handed values) 42 ∷ [])
+    member_by (handed values) (handed values 18)
+    (case_by (handed values) 19 ∷ case_by (handed values) 27 ∷ case_by (handed values) 35 ∷ case_by (handed values) 43 ∷ [])

@@ -1,4 +1,4 @@
-// Records handed in as numbers, for the calls for other languages: a header's seven, a storey's six, a member's fifty, N_D and N_K counted from -20,000,000. A number that is not given is outside every range.
+// Records handed in as numbers, for the calls for other languages: a header's seven, a storey's six, a member's fifty-one, N_D and N_K counted from -20,000,000. A number that is not given is outside every range.
 #![tactic(auto)]
 
 ghost use Rattle.std.specs.Prelude.{◌≡◌, ◌≤◌, map};
@@ -9,7 +9,7 @@ ghost use Rattle.handed.specs.Handed.{handed, header_handed, storey_handed, memb
 
 use records::form::Form;
 use records::numbers::value_or;
-use records::{FIELDS_MOST, Header, LoadCase, Member, Storey};
+use records::{FIELDS_MOST, Header, LoadCase, MEMBER_CASES_FIELDS, Member, Storey};
 use std::array;
 
 // What stands for a number that is not given.
@@ -36,7 +36,7 @@ pub fn storey_given(values: &[u64]) -> Storey
 
 // The load case whose numbers stand from number j on.
 fn case_given(values: &[u64], j: usize) -> LoadCase
-    requires { j ≤ 42 }
+    requires { j ≤ 43 }
     ensures { result ≡ case_by (handed values.now) j }
 {
     LoadCase::from(array::from_fn(|i| value_or(values, j + i, MISSING)))
@@ -45,6 +45,7 @@ fn case_given(values: &[u64], j: usize) -> LoadCase
 pub fn member_given(values: &[u64]) -> Member
     ensures { result ≡ member_handed values.now }
 {
-    let cases = array::from_fn(|c| case_given(values, 18 + 8 * c));
-    Member::with_cases(&values_of(values), cases)
+    let annex_e = value_or(values, MEMBER_CASES_FIELDS - 1, MISSING);
+    let cases = array::from_fn(|c| case_given(values, MEMBER_CASES_FIELDS + 8 * c));
+    Member::with_cases(&values_of(values), annex_e, cases)
 }

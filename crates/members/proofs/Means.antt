@@ -5,7 +5,7 @@ use native.Mathlib.Decide.{dec_le}
 use native.Mathlib.Omega.{arith}
 use mathlib.Core.List.{List, [], ◌∷◌}
 use mathlib.Core.Path.{◌≡◌}
-use mathlib.Core.Bool.{Bool, true, false}
+use mathlib.Core.Bool.{Bool, true, false, ◌&&◌}
 use lib.Dec.{eqb}
 use Rattle.records.specs.Notation.{pick}
 use Rattle.members.specs.declared.class.Class.{Class}
@@ -128,13 +128,13 @@ module _ {most : ℕ} (p : Places) (t : Table) (sp : SizedPlaces p) (st : SizedT
   exact-mean WallA zone n v ρ = wall-a (eqb zone 1) n v
   exact-mean WallB zone n v ρ = wall-b v
 
-cut : (b : Bool) → pick b 3 4 ≤ 4
-cut true = omega arith
-cut false = omega arith
+cut : (b : Bool) (q : ℕ) → q ≤ 4 → pick b q 4 ≤ 4
+cut true q h = h
+cut false q h = omega arith
 
-pub quarters_most : (class : Class) (strengthened : ℕ) → quarters class strengthened ≤ 4
-quarters_most ColumnA s = cut (eqb s 1)
-quarters_most ColumnB s = cut (eqb s 1)
-quarters_most ColumnC s = omega arith
-quarters_most WallA s = omega arith
-quarters_most WallB s = omega arith
+pub quarters_most : (class : Class) (strengthened annex_e : ℕ) → quarters class strengthened annex_e ≤ 4
+quarters_most ColumnA s e = cut (eqb s 1) 3 (omega arith)
+quarters_most ColumnB s e = cut (eqb s 1) 3 (omega arith)
+quarters_most ColumnC s e = omega arith
+quarters_most WallA s e = omega arith
+quarters_most WallB s e = cut (eqb s 1 && eqb e 0) 2 (omega arith)

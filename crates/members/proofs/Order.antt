@@ -315,19 +315,19 @@ kept true h = absurd (h refl)
 kept false h = omega arith
 
 -- 3/4 applies to both or to neither, unless a strengthened column comes to C
-quarters-later : {k k' : Class} → Later k k' → (strengthened : ℕ) → (strengthened ≡ 1 → k' ≡ ColumnC → k ≡ ColumnC) → quarters k' strengthened ≤ quarters k strengthened
-quarters-later same st h = omega arith
-quarters-later a-then-b st h = omega arith
-quarters-later a-then-c st h = kept (eqb st 1) (λ e. apart (h (eqb-true st 1 e) refl))
+quarters-later : {k k' : Class} → Later k k' → (strengthened annex_e : ℕ) → (strengthened ≡ 1 → k' ≡ ColumnC → k ≡ ColumnC) → quarters k' strengthened annex_e ≤ quarters k strengthened annex_e
+quarters-later same st ae h = omega arith
+quarters-later a-then-b st ae h = omega arith
+quarters-later a-then-c st ae h = kept (eqb st 1) (λ e. apart (h (eqb-true st 1 e) refl))
   where
     apart : ColumnA ≡ ColumnC → ⊥
     apart e = let z : ◌≡◌ {A = ℕ} 0 1 = cc in omega arith
-quarters-later b-then-c st h = kept (eqb st 1) (λ e. apart (h (eqb-true st 1 e) refl))
+quarters-later b-then-c st ae h = kept (eqb st 1) (λ e. apart (h (eqb-true st 1 e) refl))
   where
     apart : ColumnB ≡ ColumnC → ⊥
     apart e = let z : ◌≡◌ {A = ℕ} 0 1 = cc in omega arith
 
-module _ (s : LimitSet) (e : ordered_set s ≡ true) {n n' v v' ρ ρ' : ℕ} (r : Ratios≤ n n' v v' ρ ρ') {k k' : Class} (l : Later k k') (zone st : ℕ) (h : st ≡ 1 → k' ≡ ColumnC → k ≡ ColumnC) where
+module _ (s : LimitSet) (e : ordered_set s ≡ true) {n n' v v' ρ ρ' : ℕ} (r : Ratios≤ n n' v v' ρ ρ') {k k' : Class} (l : Later k k') (zone st ae : ℕ) (h : st ≡ 1 → k' ≡ ColumnC → k ≡ ColumnC) where
   rows : Rising s.places
   rows = rising-facts s.places (and_left (places_rise s.places) (ordered s.m && ordered s.rotation) e)
 
@@ -341,26 +341,26 @@ module _ (s : LimitSet) (e : ordered_set s ≡ true) {n n' v v' ρ ρ' : ℕ} (r
   rotation-order = ordered-facts s.rotation (and_right (ordered s.m) (ordered s.rotation) both)
 
   -- a worse member's limit of m is at most the other's
-  pub m-falls : (m_limit_at s k' zone st n' v' ρ').0 ≤ (m_limit_at s k zone st n v ρ).0
+  pub m-falls : (m_limit_at s k' zone st ae n' v' ρ').0 ≤ (m_limit_at s k zone st ae n v ρ).0
   unfolding m_limit_at
   m-falls =
-      share-mono (exact s.places s.m k' zone n' v' ρ') (exact s.places s.m k zone n v ρ) (quarters k' st) (quarters k st) 4
+      share-mono (exact s.places s.m k' zone n' v' ρ') (exact s.places s.m k zone n v ρ) (quarters k' st ae) (quarters k st ae) 4
       (exact-positive s.places s.m rows m-order k' zone n' v' ρ')
       (exact-positive s.places s.m rows m-order k zone n v ρ)
       (omega arith)
-      (quarters-later l st h)
+      (quarters-later l st ae h)
       (exact-later s.places s.m rows m-order r l zone)
 
   -- and so is that of the rotation, at a factor of at most as much
-  pub rotation-falls : (factor factor' : ℕ) → factor' ≤ factor → (rotation_limit_at s k' zone st factor' n' v' ρ').0 ≤ (rotation_limit_at s k zone st factor n v ρ).0
+  pub rotation-falls : (factor factor' : ℕ) → factor' ≤ factor → (rotation_limit_at s k' zone st ae factor' n' v' ρ').0 ≤ (rotation_limit_at s k zone st ae factor n v ρ).0
   unfolding rotation_limit_at
   rotation-falls factor factor' m =
       let f = exact s.places s.rotation k' zone n' v' ρ' in
       let g = exact s.places s.rotation k zone n v ρ in
       simp mul_assoc
-      (share-mono f g (quarters k' st * factor') (quarters k st * factor) 400
+      (share-mono f g (quarters k' st ae * factor') (quarters k st ae * factor) 400
       (exact-positive s.places s.rotation rows rotation-order k' zone n' v' ρ')
       (exact-positive s.places s.rotation rows rotation-order k zone n v ρ)
       (omega arith)
-      (mul-le-mul (quarters-later l st h) m)
+      (mul-le-mul (quarters-later l st ae h) m)
       (exact-later s.places s.rotation rows rotation-order r l zone))

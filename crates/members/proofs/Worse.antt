@@ -34,6 +34,7 @@ pub record Worse (m m' : MemberCase) : Type 0 where
   pub hooks : m.hooks ≡ m'.hooks
   pub zone : m.zone ≡ m'.zone
   pub strengthened : m.strengthened ≡ m'.strengthened
+  pub annex-e : m.annex_e ≡ m'.annex_e
   pub hoops : m'.hoops ≤ m.hoops
   pub factor : m'.factor ≤ m.factor
   pub nd : m.nd ≤ m'.nd
@@ -136,12 +137,12 @@ pub record Fallen (s : LimitSet) (k : ℕ) (m m' : MemberCase) : Type 0 where
   pub rotation : (rotation_limit_of s k m').0 ≤ (rotation_limit_of s k m).0
 
 -- limits at equal marks
-module _ (s : LimitSet) (o : ordered_set s ≡ true) {n n' v v' ρ ρ' : ℕ} (r : Ratios≤ n n' v v' ρ ρ') {q q' : Class} (l : Later q q') {zone zone' st st' : ℕ} (ez : zone ≡ zone') (es : st ≡ st') (h : st ≡ 1 → q' ≡ ColumnC → q ≡ ColumnC) where
-  m-worse : (m_limit_at s q' zone' st' n' v' ρ').0 ≤ (m_limit_at s q zone st n v ρ).0
-  m-worse = rw (← ez, ← es) (m-falls s o r l zone st h)
+module _ (s : LimitSet) (o : ordered_set s ≡ true) {n n' v v' ρ ρ' : ℕ} (r : Ratios≤ n n' v v' ρ ρ') {q q' : Class} (l : Later q q') {zone zone' st st' ae ae' : ℕ} (ez : zone ≡ zone') (es : st ≡ st') (ea : ae ≡ ae') (h : st ≡ 1 → q' ≡ ColumnC → q ≡ ColumnC) where
+  m-worse : (m_limit_at s q' zone' st' ae' n' v' ρ').0 ≤ (m_limit_at s q zone st ae n v ρ).0
+  m-worse = rw (← ez, ← es, ← ea) (m-falls s o r l zone st ae h)
 
-  rotation-worse : (factor factor' : ℕ) → factor' ≤ factor → (rotation_limit_at s q' zone' st' factor' n' v' ρ').0 ≤ (rotation_limit_at s q zone st factor n v ρ).0
-  rotation-worse factor factor' f = rw (← ez, ← es) (rotation-falls s o r l zone st h factor factor' f)
+  rotation-worse : (factor factor' : ℕ) → factor' ≤ factor → (rotation_limit_at s q' zone' st' ae' factor' n' v' ρ').0 ≤ (rotation_limit_at s q zone st ae factor n v ρ).0
+  rotation-worse factor factor' f = rw (← ez, ← es, ← ea) (rotation-falls s o r l zone st ae h factor factor' f)
 
 module _ (s : LimitSet) (o : ordered_set s ≡ true) (k : ℕ) (level : 0 < k) (m m' : MemberCase) (v : Valid m) (v' : Valid m') (w : Worse m m') where
   ratios-worse : Ratios≤ (axial_ratio m).0 (axial_ratio m').0 (wall_stress m).0 (wall_stress m').0 (hoop_ratio m).0 (hoop_ratio m').0
@@ -162,8 +163,8 @@ module _ (s : LimitSet) (o : ordered_set s ≡ true) (k : ℕ) (level : 0 < k) (
   limits-fall l g =
       let h : m.strengthened ≡ 1 → class_of k m' ≡ ColumnC → class_of k m ≡ ColumnC = λ t. g (sym w.strengthened ∙ t) in
       record {
-        moment = m-worse s o ratios-worse l w.zone w.strengthened h;
-        rotation = rotation-worse s o ratios-worse l w.zone w.strengthened h m.factor m'.factor w.factor;
+        moment = m-worse s o ratios-worse l w.zone w.strengthened w.annex-e h;
+        rotation = rotation-worse s o ratios-worse l w.zone w.strengthened w.annex-e h m.factor m'.factor w.factor;
       }
 
   pub columns-fall : is_wall m ≡ false → (m'.strengthened ≡ 1 → class_of k m' ≡ ColumnC → class_of k m ≡ ColumnC) → Fallen s k m m'

@@ -46,10 +46,10 @@ hoop_ratio m = hoops m.hoops m.spacing m.core
 
 -- the limits of a member: those of its class at its ratios and marks
 unfoldable pub m_limit_of : LimitSet → ℕ → MemberCase → Ratio
-m_limit_of s k m = m_limit_at s (class_of k m) m.zone m.strengthened (axial_ratio m).0 (wall_stress m).0 (hoop_ratio m).0
+m_limit_of s k m = m_limit_at s (class_of k m) m.zone m.strengthened m.annex_e (axial_ratio m).0 (wall_stress m).0 (hoop_ratio m).0
 
 unfoldable pub rotation_limit_of : LimitSet → ℕ → MemberCase → Microradians
-rotation_limit_of s k m = rotation_limit_at s (class_of k m) m.zone m.strengthened m.factor (axial_ratio m).0 (wall_stress m).0 (hoop_ratio m).0
+rotation_limit_of s k m = rotation_limit_at s (class_of k m) m.zone m.strengthened m.annex_e m.factor (axial_ratio m).0 (wall_stress m).0 (hoop_ratio m).0
 
 -- "The m test is dropped for a wall with drift < 7,500 and 100 × V_e < k × V_r, in a storey whose walls' V total ≥ 0.40 × storey shear", which `met` says of the member's storey
 unfoldable pub m_dropped_of : ℕ → Bool → MemberCase → Bool

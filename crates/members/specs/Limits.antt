@@ -1,5 +1,5 @@
 -- The limits of a class at n, v and ρ (document 01, "Member"): "linear between rows and constant outside", as an exact fraction.
-use Rattle.std.specs.Prelude.{◌+◌, ◌-◌, ◌*◌, ◌∷◌, slice_index}
+use Rattle.std.specs.Prelude.{◌+◌, ◌-◌, ◌*◌, ◌&&◌, ◌∷◌, slice_index}
 use Rattle.records.specs.Notation.{ℕ, zero, suc, min, max, List, [], leb, eqb, pick}
 use Rattle.members.specs.Units.{Ratio, Microradians, ratio_steps, micro_steps}
 use Rattle.members.specs.Class.{Class, ColumnA, ColumnB, ColumnC, WallA, WallB}
@@ -75,7 +75,7 @@ wall_a p t zone n v = pick (eqb zone 1) (wall_rows p t.zone1 t.zone2 n v) (wall_
 unfoldable pub wall_b : Places → Table → ℕ → Fraction
 wall_b p t v = along 2 p.stress t.wall v
 
--- the limit of a class before 3/4 and factor
+-- the limit of a class before 3/4, 1/2 and factor
 abbrev pub exact : Places → Table → Class → ℕ → ℕ → ℕ → ℕ → Fraction
 exact p t ColumnA zone n v ρ = column_a p t n
 exact p t ColumnB zone n v ρ = column_b p t n ρ
@@ -83,18 +83,23 @@ exact p t ColumnC zone n v ρ = column_c p t n
 exact p t WallA zone n v ρ = wall_a p t zone n v
 exact p t WallB zone n v ρ = wall_b p t v
 
--- "A strengthened column of class A or B has both limits times 3/4; C is unchanged, and the mark changes nothing on a wall"
-abbrev pub cut_quarters : ℕ → ℕ
-cut_quarters strengthened = pick (eqb strengthened 1) 3 4
+-- "A strengthened column of class A or B has both limits times 3/4; C is unchanged"
+abbrev pub column_quarters : ℕ → ℕ
+column_quarters strengthened = pick (eqb strengthened 1) 3 4
 
-abbrev pub quarters : Class → ℕ → ℕ
-quarters ColumnA strengthened = cut_quarters strengthened
-quarters ColumnB strengthened = cut_quarters strengthened
-quarters ColumnC strengthened = 4
-quarters WallA strengthened = 4
-quarters WallB strengthened = 4
+-- "A strengthened wall of class B with 0 there has both limits times 1/2 .. Every other strengthened wall keeps the table" (document 02, N6): 0 for "detailed to annex E"
+abbrev pub wall_quarters : ℕ → ℕ → ℕ
+wall_quarters strengthened annex_e = pick (eqb strengthened 1 && eqb annex_e 0) 2 4
 
--- "Each limit is rounded down once, at the end": after 3/4, and that of the rotation after factor / 100
+-- how many quarters of its limits a class keeps
+abbrev pub quarters : Class → ℕ → ℕ → ℕ
+quarters ColumnA strengthened annex_e = column_quarters strengthened
+quarters ColumnB strengthened annex_e = column_quarters strengthened
+quarters ColumnC strengthened annex_e = 4
+quarters WallA strengthened annex_e = 4
+quarters WallB strengthened annex_e = wall_quarters strengthened annex_e
+
+-- "Each limit is rounded down once, at the end": after 3/4 or 1/2, and that of the rotation after factor / 100
 abbrev pub round_m : Fraction → ℕ → Ratio
 round_m f q = ratio_steps (f.num * q) (f.den * 4)
 
@@ -102,9 +107,9 @@ abbrev pub round_rotation : Fraction → ℕ → ℕ → Microradians
 round_rotation f q factor = micro_steps (f.num * q * factor) (f.den * 4 * 100)
 
 -- the limits of a class at n, v and ρ
-unfoldable pub m_limit_at : LimitSet → Class → ℕ → ℕ → ℕ → ℕ → ℕ → Ratio
-m_limit_at s class zone strengthened n v ρ = round_m (exact s.places s.m class zone n v ρ) (quarters class strengthened)
+unfoldable pub m_limit_at : LimitSet → Class → ℕ → ℕ → ℕ → ℕ → ℕ → ℕ → Ratio
+m_limit_at s class zone strengthened annex_e n v ρ = round_m (exact s.places s.m class zone n v ρ) (quarters class strengthened annex_e)
 
-unfoldable pub rotation_limit_at : LimitSet → Class → ℕ → ℕ → ℕ → ℕ → ℕ → ℕ → Microradians
-rotation_limit_at s class zone strengthened factor n v ρ =
-    round_rotation (exact s.places s.rotation class zone n v ρ) (quarters class strengthened) factor
+unfoldable pub rotation_limit_at : LimitSet → Class → ℕ → ℕ → ℕ → ℕ → ℕ → ℕ → ℕ → Microradians
+rotation_limit_at s class zone strengthened annex_e factor n v ρ =
+    round_rotation (exact s.places s.rotation class zone n v ρ) (quarters class strengthened annex_e) factor

@@ -151,8 +151,8 @@ impl GoodCase {
     // The published limits of a class at ratios, by the marks of the member.
     #[tactic(auto, using(crate::proofs::Published::published_limits), unfolding(crate::specs::Limits::m_limit_at, crate::specs::Limits::rotation_limit_at))]
     fn limits(&self, class: Class, at: &Ratios) -> Limits
-        ensures m_value { result.m ≡ m_limit_at published class self.now.case.zone self.now.case.strengthened at.now.n.0 at.now.v.0 at.now.rho.0 }
-        ensures rotation_value { result.rotation ≡ rotation_limit_at published class self.now.case.zone self.now.case.strengthened self.now.case.factor at.now.n.0 at.now.v.0 at.now.rho.0 }
+        ensures m_value { result.m ≡ m_limit_at published class self.now.case.zone self.now.case.strengthened self.now.case.annex_e at.now.n.0 at.now.v.0 at.now.rho.0 }
+        ensures rotation_value { result.rotation ≡ rotation_limit_at published class self.now.case.zone self.now.case.strengthened self.now.case.annex_e self.now.case.factor at.now.n.0 at.now.v.0 at.now.rho.0 }
     {
         let s = LimitSet::published();
         let m = PlacedTable {
@@ -163,7 +163,7 @@ impl GoodCase {
             places: &s.places,
             table: &s.rotation,
         };
-        let q = class.quarters(self.case.strengthened);
+        let q = class.quarters(self.case.strengthened, self.case.annex_e);
         Limits {
             m: m.exact(class, self.case.zone, at).round_m(q),
             rotation: rotation

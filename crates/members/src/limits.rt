@@ -191,7 +191,7 @@ impl PlacedTable<'_> {
         interpolate(&self.places.stress, &self.table.wall, v)
     }
 
-    // The limit of a class, before 3/4 and factor.
+    // The limit of a class, before 3/4, 1/2 and factor.
     pub(crate) fn exact(&self, class: Class, zone: u64, at: &Ratios) -> Fraction
         ensures { result ≡ exact self.now.places.now self.now.table.now class zone at.now.n.0 at.now.v.0 at.now.rho.0 }
     {
@@ -206,14 +206,20 @@ impl PlacedTable<'_> {
 }
 
 impl Class {
-    // How many quarters of its limits a class keeps.
-    pub(crate) fn quarters(self, strengthened: u64) -> u64
-        ensures { result ≡ quarters self strengthened }
+    // How many quarters of its limits a class keeps, by the marks of a member: strengthened, and detailed to annex E.
+    pub(crate) fn quarters(self, strengthened: u64, annex_e: u64) -> u64
+        ensures { result ≡ quarters self strengthened annex_e }
     {
-        let cut = if strengthened == 1 { 3 } else { 4 };
+        let column = if strengthened == 1 { 3 } else { 4 };
+        let wall = if strengthened == 1 && annex_e == 0 {
+            2
+        } else {
+            4
+        };
         match self {
-            Class::ColumnA | Class::ColumnB => cut,
-            Class::ColumnC | Class::WallA | Class::WallB => 4,
+            Class::ColumnA | Class::ColumnB => column,
+            Class::WallB => wall,
+            Class::ColumnC | Class::WallA => 4,
         }
     }
 }

@@ -3,13 +3,13 @@
 
 ghost use Rattle.std.specs.Prelude.{◌≡◌, ◌&&◌, ◌||◌, leb, eqb, get_or};
 ghost use Rattle.records.specs.Records.{never, allows, header_ranges, ranges, line_in_range};
-ghost use Rattle.records.specs.declared.Kind.TheVariants.{M, D};
+ghost use Rattle.records.specs.declared.Kind.TheVariants.{M, M4, D};
 ghost use Rattle.ranges.specs.Rows.{row, rows};
 
 use records::numbers::value_or;
 use records::{
-    CASE_FIELDS, CASES, HEADER_FIELDS, Kind, MEMBER_CASES_FIELDS, STOREY_CASES_FIELDS,
-    STOREY_FIELDS,
+    CASE_AT, CASE_FIELDS, CASES, HEADER_FIELDS, Kind, MEMBER_CASES_FIELDS, MEMBER_FIELDS,
+    STOREY_CASES_FIELDS, STOREY_FIELDS,
 };
 
 // The least and the greatest number that a field may hold.
@@ -124,7 +124,7 @@ const STOREY: [Range; STOREY_FIELDS] = [NUMBER, SHEAR, COUNT];
 const STOREY_CASES: [Range; STOREY_CASES_FIELDS] = [NUMBER, SHEAR, SHEAR, SHEAR, SHEAR, COUNT];
 
 // Fields 1 to 18 of an M line.
-const MEMBER: [Range; MEMBER_CASES_FIELDS] = [
+const MEMBER: [Range; CASE_AT] = [
     NUMBER, LENGTH, LENGTH, AREA, CONCRETE, CONCRETE, STEEL, LENGTH, LENGTH, SPACING, LENGTH,
     HOOPS, MARK, MARK, MARK, FACTOR, DAMAGE, FORCE,
 ];
@@ -133,6 +133,9 @@ const MEMBER: [Range; MEMBER_CASES_FIELDS] = [
 const CASE: [Range; CASE_FIELDS - 1] = [
     FORCE, DEMAND, CAPACITY, DEMAND, CAPACITY, DEMAND, DEMAND, DEMAND,
 ];
+
+// The last field of an M line: detailed to annex E.
+const ANNEX_E: [Range; 1] = [MARK];
 
 // Field j of some, counted from 0, may hold v; none past them.
 fn field_allows(ranges: &[Range], j: usize, v: u64) -> bool
@@ -159,10 +162,23 @@ fn header_allows(j: usize, v: u64, storeys: u64) -> bool
 fn member_allows(j: usize, v: u64) -> bool
     ensures { result ≡ allows (get_or (ranges M 0) j never) v }
 {
-    if j < MEMBER_CASES_FIELDS {
+    if j < CASE_AT {
         return field_allows(&MEMBER, j, v);
     }
-    field_allows(&CASE, j - MEMBER_CASES_FIELDS, v)
+    if j < MEMBER_FIELDS - 1 {
+        return field_allows(&CASE, j - CASE_AT, v);
+    }
+    field_allows(&ANNEX_E, j - (MEMBER_FIELDS - 1), v)
+}
+
+// Field j of an M line of the form of four cases.
+fn member_cases_allows(j: usize, v: u64) -> bool
+    ensures { result ≡ allows (get_or (ranges M4 0) j never) v }
+{
+    if j < CASE_AT {
+        return field_allows(&MEMBER, j, v);
+    }
+    field_allows(&ANNEX_E, j - (MEMBER_CASES_FIELDS - 1), v)
 }
 
 // Field j of a D line.
@@ -184,7 +200,7 @@ pub fn range_allows(kind: Kind, j: usize, v: u64, storeys: u64) -> bool
         Kind::S => field_allows(&STOREY, j, v),
         Kind::M => member_allows(j, v),
         Kind::S4 => field_allows(&STOREY_CASES, j, v),
-        Kind::M4 => field_allows(&MEMBER, j, v),
+        Kind::M4 => member_cases_allows(j, v),
         Kind::D => case_allows(j, v),
     }
 }

@@ -6,11 +6,10 @@ use native.Mathlib.Numerals.{add-one}
 use mathlib.Core.List.{List}
 use mathlib.Core.Logic.{⊎_elim}
 use mathlib.Core.Path.{◌≡◌, refl, ap, sym, ◌∙◌}
-use Rattle.records.specs.Records.{storey_kind}
 use Rattle.format.specs.Lines.{storey_at, member_at}
 use Rattle.reading.specs.Survey.{line_start, members_before, storey, member}
 use Rattle.reading.specs.Filling.{placed, filled_members}
-use Rattle.reading.specs.Checks.{Sound, MembersSound, Fits}
+use Rattle.reading.specs.Checks.{MembersSound, Fits}
 use Rattle.records.specs.declared.Storey.{Storey}
 use Rattle.records.specs.declared.Member.{Member}
 
@@ -42,9 +41,6 @@ module _ (form : ℕ) (s : List ℕ) (n : ℕ) (f : Fits form s n) where
   module _ (i m : ℕ) (h : i < n) (e : m ≡ members_before form s i) where
     pub storey-small : (i ≤ 9) × (m ≤ 2000)
     storey-small = let b = before_small i (omega arith) in (omega (arith, f.storeys), omega (arith, f.storeys))
-
-    pub storey-sound : Sound (storey_kind form) s (line_start form i m)
-    storey-sound = rw e (f.lines i h)
 
     module _ (r : Storey) (c : ℕ) (g : r ≡ storey_at form s (line_start form i m)) (k : c ≡ r.count) where
       pub storey-is : r ≡ storey form s i

@@ -16,7 +16,7 @@ use crate::place::Place;
 use format::lines::{Line, case_lines, line_length, line_size, member_size};
 use records::form::Form;
 use records::refusal::Refusal;
-use records::{FIELDS_MOST, Header, Kind, LoadCase, Member, Storey};
+use records::{FIELDS_MOST, Header, Kind, LoadCase, MEMBER_CASES_FIELDS, Member, Storey};
 use std::array;
 use validity::{check_header, check_sides};
 
@@ -263,7 +263,7 @@ impl<'a> File<'a> {
             Form::Old => Member::of(&vs),
             Form::FourCases => {
                 let cases = array::from_fn(|c| self.case_at(self.case_start(place, c)));
-                Member::with_cases(&vs, cases)
+                Member::with_cases(&vs, vs[MEMBER_CASES_FIELDS - 1], cases)
             }
         }
     }

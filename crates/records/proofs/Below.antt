@@ -22,11 +22,6 @@ pub and_right : (a b : Bool) → (a && b) ≡ true → b ≡ true
 and_right true b e = e
 and_right false b e = let z : ◌≡◌ {A = ℕ} 0 1 = cc in absurd (omega arith)
 
--- two tests that hold and fail together are one
-pub agree : (t u : Bool) → (t ≡ true → u ≡ true) → (t ≡ false → u ≡ false) → t ≡ u
-agree true u f g = sym (f refl)
-agree false u f g = sym (g refl)
-
 pub both_ways : (t u : Bool) → (t ≡ true → u ≡ true) → (u ≡ true → t ≡ true) → t ≡ u
 both_ways true u f g = sym (f refl)
 both_ways false true f g = g refl
@@ -40,10 +35,6 @@ module _ (p : ℕ → Bool) where
   pub every_more : (n : ℕ) → every_below p n ≡ true → p n ≡ true → every_below p (n + 1) ≡ true
   unfolding every_below
   every_more n e f = rw (add-one, e, f)
-
-  pub every-next : (n : ℕ) → every_below p (n + 1) ≡ (every_below p n && p n)
-  unfolding every_below
-  every-next n = rw add-one
 
   pub every-fails : (n j : ℕ) → j < n → p j ≡ false → every_below p n ≡ false
   unfolding every_below
@@ -75,11 +66,6 @@ module _ (p : ℕ → Bool) where
   every-split n (suc k) =
       let z : n + suc k ≡ suc (n + k) = omega arith in
       rw (z, every-split n k) (and_assoc (every_below p n) (every_below (λ j. p (n + j)) k) (p (n + k)))
-
-  -- of four numbers, the first of which is known
-  pub every-four : p 0 ≡ true → every_below p 4 ≡ ((p 1 && p 2) && p 3)
-  unfolding every_below
-  every-four e = rw e
 
   -- of the first k elements of a list, whose j-th the test q takes as p does j
   every-taken : {A : Type 0} (q : A → Bool) (xs : List A) (d : A) → ((j : ℕ) → j < length xs → q (get_or xs j d) ≡ p j) → (k : ℕ) → k ≤ length xs → list_all q (take k xs) ≡ every_below p k

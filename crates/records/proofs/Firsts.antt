@@ -83,12 +83,6 @@ pub in-order-both : (xs ys : List ℕ) → in_order (xs ++ ys) ≡ pick (eqb (in
 in-order-both [] ys = refl
 in-order-both (a ∷ xs) ys = one_more (eqb a 0) a (in_order ys) (in_order xs) (in_order (xs ++ ys)) refl (in-order-both xs ys)
 
-pub nested : (t : Bool) (a b : ℕ) (later : List ℕ) → eqb a 0 ≡ t → in_order (pick t (in_order (b ∷ [])) a ∷ later) ≡ pick t (in_order (b ∷ later)) a
-nested true a b later e = rw (last_of b)
-nested false a b later e = rw e
-
--- ---- the answer
-
 -- ---- a loop over refusals: one that stops it, and none
 abbrev pub first_fault : (ℕ → ℕ) → ℕ → ℕ
 first_fault = first 0 (λ r. r)

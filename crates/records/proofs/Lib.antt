@@ -5,7 +5,6 @@ pub mod Cases
 pub mod Refusals
 pub mod Forms
 pub mod OtherForms
-pub mod Structs
 pub mod Validity
 pub mod Lines
 pub mod Made

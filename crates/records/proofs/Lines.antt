@@ -3,7 +3,7 @@ use Prim.Native.Nat.{ℕ, zero, suc, ◌+◌, ◌≤◌, ◌<◌}
 use native.Mathlib.Omega.{arith}
 use native.Mathlib.Nat.{le_of_suc-le-suc, not-suc-le-zero}
 use mathlib.Core.Bool.{Bool, true, false, ◌&&◌, and-true, and-false}
-use mathlib.Core.List.{List, [], ◌∷◌}
+use mathlib.Core.List.{List, [], ◌∷◌, ◌++◌}
 use mathlib.Core.Path.{◌≡◌, refl, sym, ap, ◌∙◌}
 use lib.Dec.{leb, ltb, eqb}
 use lib.ListN.{length, get_or, get_or-append}
@@ -11,42 +11,49 @@ use lib.Seq.{get_or-append-add}
 use borrow.Author.Tests.{le-leb, lt-ltb, eq-eqb}
 use Rattle.records.specs.Notation.{pick, every_below}
 use Rattle.records.specs.declared.{LoadCase.LoadCase, Member.Member, Kind.Kind, Kind.TheVariants.B, Kind.TheVariants.S, Kind.TheVariants.M, Kind.TheVariants.S4, Kind.TheVariants.M4, Kind.TheVariants.D}
-use Rattle.records.specs.Records.{never, allows, ranges, fields, in_range, line_in_range, in_cases, known_form, case_count, storey_kind, member_kind, case_of, with_case, in_case, member_values, case_values, member_case_values, header_values, storey_values, header_by, storey_by, case_by, old_cases, member_by, sides_fault, case_fits, header_fault, storey_fault, member_fault, is_blank}
+use Rattle.records.specs.Records.{never, allows, ranges, fields, in_range, line_in_range, in_cases, known_form, case_count, storey_kind, member_kind, case_of, with_case, in_case, member_values, case_values, member_case_values, header_values, storey_values, header_by, storey_by, case_by, member_by, old_member, sides_fault, case_fits, header_fault, storey_fault, member_fault, is_blank}
 use Rattle.records.proofs.Allowing.{member-field, case-field, three-fields}
-use Rattle.records.proofs.Below.{both_ways, every-at, every_of, every-add, every-fails, every-same}
+use Rattle.records.proofs.Below.{both_ways, every-at, every_of, every_more, every-add, every-fails, every-same}
 use Rattle.records.proofs.Cases.{blank_none, cases-least, cases-most}
 use Rattle.records.proofs.Validity.{Ranged, case-in-range}
 
+-- the first 18 numbers of a member
+abbrev shared_values : Member → List ℕ
+shared_values m =
+    m.number ∷ m.long ∷ m.short ∷ m.area ∷ m.fcm ∷ m.fctm ∷ m.fyw ∷ m.depth ∷ m.height ∷ m.spacing ∷ m.core ∷ m.hoops
+    ∷ m.hooks ∷ m.zone ∷ m.strengthened ∷ m.factor ∷ m.damage ∷ m.nd ∷ []
+
 -- ---- the line of a member in one case, beside its M line and its D line in the form of four cases
 module _ (m : Member) (k : LoadCase) where
-  first-fields : (j : ℕ) → j < fields M4 → in_range M (member_case_values (with_case m k)) j ≡ in_range M4 (member_values m) j
-  first-fields j h = ap (λ r. allows r (get_or (member_case_values (with_case m k)) j 0)) (member-field j h) ∙ ap (allows (get_or (ranges M4 0) j never)) (get_or-append (member_values m) (case_values k) 0 j h)
+  first-fields : (j : ℕ) → j < 18 → in_range M (member_case_values (with_case m k)) j ≡ in_range M4 (member_values m) j
+  first-fields j h =
+      ap (λ r. allows r (get_or (member_case_values (with_case m k)) j 0)) (member-field j h)
+      ∙ ap (allows (get_or (ranges M4 0) j never)) (get_or-append (shared_values m) (case_values k ++ (m.annex_e ∷ [])) 0 j h ∙ sym (get_or-append (shared_values m) (m.annex_e ∷ []) 0 j h))
 
-  last-fields : (n i : ℕ) → in_range M (member_case_values (with_case m k)) (18 + i) ≡ in_range D (n ∷ case_values k) (suc i)
-  last-fields n i =
-      let e : 17 + suc i ≡ 18 + i = omega arith in
-      ap (λ r. allows r (get_or (member_case_values (with_case m k)) (18 + i) 0)) (rw e at (case-field (suc i) (λ z. omega arith)))
-      ∙ ap (allows (get_or (ranges D 0) (suc i) never)) (get_or-append-add (member_values m) (case_values k) i 0)
+  case-fields : (n i : ℕ) → i < 8 → in_range M (member_case_values (with_case m k)) (18 + i) ≡ in_range D (n ∷ case_values k) (suc i)
+  case-fields n i h =
+      ap (λ r. allows r (get_or (member_case_values (with_case m k)) (18 + i) 0)) (case-field i h)
+      ∙ ap (allows (get_or (ranges D 0) (suc i) never)) (get_or-append-add (shared_values m) (case_values k ++ (m.annex_e ∷ [])) i 0 ∙ get_or-append (case_values k) (m.annex_e ∷ []) 0 i h)
 
   member-line : Ranged M (member_case_values (with_case m k)) → Ranged M4 (member_values m)
-  member-line r = every_of (in_range M4 (member_values m)) (fields M4) (λ j h. sym (first-fields j h) ∙ every-at (in_range M (member_case_values (with_case m k))) (fields M) j r (omega arith))
+  member-line r =
+      let at : (j : ℕ) → j < fields M → in_range M (member_case_values (with_case m k)) j ≡ true = λ j h. every-at (in_range M (member_case_values (with_case m k))) (fields M) j r h in
+      every_more (in_range M4 (member_values m)) 18 (every_of (in_range M4 (member_values m)) 18 (λ j h. sym (first-fields j h) ∙ at j (omega arith))) (at 26 (omega arith))
 
   case-line : (n : ℕ) → 1 ≤ n → n ≤ 4 → Ranged M (member_case_values (with_case m k)) → Ranged D (n ∷ case_values k)
   case-line n a b r = every_of (in_range D (n ∷ case_values k)) (fields D) at
     where
       at : (j : ℕ) → j < fields D → in_range D (n ∷ case_values k) j ≡ true
       at zero h = rw (le-leb 1 n a, le-leb n 4 b)
-      at (suc i) h = sym (last-fields n i) ∙ every-at (in_range M (member_case_values (with_case m k))) (fields M) (18 + i) r (omega arith)
+      at (suc i) h = sym (case-fields n i (le_of_suc-le-suc h)) ∙ every-at (in_range M (member_case_values (with_case m k))) (fields M) (18 + i) r (omega arith)
 
   lines_join : (n : ℕ) → Ranged M4 (member_values m) → Ranged D (n ∷ case_values k) → Ranged M (member_case_values (with_case m k))
   lines_join n r q =
-      every-add (in_range M (member_case_values (with_case m k))) 18 8
-      (every_of (in_range M (member_case_values (with_case m k))) 18 (λ j h. first-fields j h ∙ every-at (in_range M4 (member_values m)) 18 j r h))
-      (λ i h. last-fields n i ∙ every-at (in_range D (n ∷ case_values k)) 9 (suc i) q (omega arith))
-
--- where the fields that are the same in each case are in their ranges, a case is told by its own
-case-alone : (m : Member) (k l : LoadCase) → Ranged M (member_case_values (with_case m k)) → line_in_range M (member_case_values (with_case m l)) ≡ line_in_range D (1 ∷ case_values l)
-case-alone m k l r = both_ways _ _ (case-line m l 1 (omega arith) (omega arith)) (lines_join m l 1 (member-line m k r))
+      every_more (in_range M (member_case_values (with_case m k))) 26
+      (every-add (in_range M (member_case_values (with_case m k))) 18 8
+      (every_of (in_range M (member_case_values (with_case m k))) 18 (λ j h. first-fields j h ∙ every-at (in_range M4 (member_values m)) 19 j r (omega arith)))
+      (λ i h. case-fields n i h ∙ every-at (in_range D (n ∷ case_values k)) 9 (suc i) q (omega arith)))
+      (every-at (in_range M4 (member_values m)) 19 18 r (omega arith))
 
 line_of : (t : Bool) (m : Member) → Ranged M (member_case_values (in_case 0 m)) → Ranged (pick t M4 M) (pick t (member_values m) (member_case_values (in_case 0 m)))
 line_of true m r = member-line m (case_of 0 m) r
@@ -99,13 +106,13 @@ fits_all : (form : ℕ) (m : Member) → length m.cases ≡ 4 → ((c : ℕ) →
 unfolding member_fault
 fits_all form m e h = rw (eq-eqb (length m.cases) 4 e, every_of (case_fits form m) 4 h)
 
-pub member-good : (form : ℕ) (f : ℕ → ℕ) → in_cases form ≡ false → InRanges M f → member_fault form (member_by f (old_cases f)) ≡ sides_fault (f 2) (f 1)
+pub member-good : (form : ℕ) (f : ℕ → ℕ) → in_cases form ≡ false → InRanges M f → member_fault form (old_member f) ≡ sides_fault (f 2) (f 1)
 member-good form f e r = fits_all form m refl fits
   where
     m : Member
-    m = member_by f (old_cases f)
+    m = old_member f
 
-    fits : (c : ℕ) → c < 4 → case_fits form (member_by f (old_cases f)) c ≡ true
+    fits : (c : ℕ) → c < 4 → case_fits form (old_member f) c ≡ true
     fits zero h = rw e (ranged M f r)
     fits (suc zero) h = rw e blank_none
     fits (suc (suc zero)) h = rw e blank_none
@@ -113,11 +120,11 @@ member-good form f e r = fits_all form m refl fits
     fits (suc (suc (suc (suc c)))) h = let z : ⊥ = omega arith in absurd z
 
 -- in the form of four cases: g c tells the numbers of the D line of case c
-pub member-cases-good : (form : ℕ) (f : ℕ → ℕ) (g : ℕ → ℕ → ℕ) → in_cases form ≡ true → InRanges M4 f → ((c : ℕ) → c < 4 → InRanges D (g c)) → member_fault form (member_by f (case_by (g 0) 1 ∷ case_by (g 1) 1 ∷ case_by (g 2) 1 ∷ case_by (g 3) 1 ∷ [])) ≡ sides_fault (f 2) (f 1)
+pub member-cases-good : (form : ℕ) (f : ℕ → ℕ) (g : ℕ → ℕ → ℕ) → in_cases form ≡ true → InRanges M4 f → ((c : ℕ) → c < 4 → InRanges D (g c)) → member_fault form (member_by f (f 18) (case_by (g 0) 1 ∷ case_by (g 1) 1 ∷ case_by (g 2) 1 ∷ case_by (g 3) 1 ∷ [])) ≡ sides_fault (f 2) (f 1)
 member-cases-good form f g e r q = fits_all form m refl fits
   where
     m : Member
-    m = member_by f (case_by (g 0) 1 ∷ case_by (g 1) 1 ∷ case_by (g 2) 1 ∷ case_by (g 3) 1 ∷ [])
+    m = member_by f (f 18) (case_by (g 0) 1 ∷ case_by (g 1) 1 ∷ case_by (g 2) 1 ∷ case_by (g 3) 1 ∷ [])
 
     line : (c : ℕ) → c < 4 → Ranged M (member_case_values (with_case m (case_by (g c) 1)))
     line c h = lines_join m (case_by (g c) 1) (g c 0) (ranged M4 f r) (ranged D (g c) (q c h))

@@ -2,7 +2,7 @@
 use Prim.Native.Nat.{ℕ, ◌<◌}
 use native.Mathlib.Omega.{arith}
 use mathlib.Core.List.{List, ◌∷◌}
-use mathlib.Core.Path.{◌≡◌, refl, sym}
+use mathlib.Core.Path.{◌≡◌}
 use Rattle.std.specs.Prelude.{false}
 use lib.Dec.{eqb}
 use borrow.Author.Tests.{ne_eqb}
@@ -30,6 +30,3 @@ refused-first r a later e =
     let h = number-positive r in
     let n : eqb a 0 ≡ false = ne_eqb a 0 (omega arith) in
     rw n e
-
-pub passed-first : (a : ℕ) (later : List ℕ) → 0 ≡ a → in_order (a ∷ later) ≡ in_order later
-passed-first a later e = rw (sym e) refl

@@ -23,7 +23,7 @@ abbrev pub in_order : List ℕ → ℕ
 in_order [] = 0
 in_order (a ∷ later) = pick (eqb a 0) (in_order later) a
 
--- the first of f 0, f 1, .. f (n - 1) that is a refusal, as `number` tells; else `clear`
+-- the first of f 0, f 1, .. f (n - 1) whose `number` is not 0, as a refusal's is not; else `clear`
 unfoldable pub first : {A : Type 0} → A → (A → ℕ) → (ℕ → A) → ℕ → A
 first clear number f zero = clear
 first clear number f (suc n) = pick (eqb (number (first clear number f n)) 0) (f n) (first clear number f n)

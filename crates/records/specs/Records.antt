@@ -87,24 +87,32 @@ case_ranges =
     ∷ between 0 9_999_999 ∷ between 1 9_999_999 ∷ between 0 9_999_999 ∷ between 1 9_999_999
     ∷ between 0 9_999_999 ∷ between 0 9_999_999 ∷ between 0 9_999_999 ∷ []
 
+-- "The M line gains a last field, 'detailed to annex E', 0 or 1" (document 02, N6)
+abbrev pub annex_e_range : Allowed
+annex_e_range = between 0 1
+
 -- the ranges of a line's fields; a B line's last depends on its n_s. "The M line keeps fields 1 to 18. Four D lines follow it, each with a case number 1 to 4 and
 -- former fields 19 to 26" (document 02, N3)
 abbrev pub ranges : Kind → ℕ → List Allowed
 ranges B ns = header_ranges ns
 ranges S ns = storey_ranges
-ranges M ns = member_ranges ++ case_ranges
+ranges M ns = member_ranges ++ (case_ranges ++ (annex_e_range ∷ []))
 ranges S4 ns = storey_cases_ranges
-ranges M4 ns = member_ranges
+ranges M4 ns = member_ranges ++ (annex_e_range ∷ [])
 ranges D ns = between 1 4 ∷ case_ranges
 
 -- how many fields a line has
 abbrev pub fields : Kind → ℕ
 fields B = 6
 fields S = 3
-fields M = 26
+fields M = 27
 fields S4 = 6
-fields M4 = 18
+fields M4 = 19
 fields D = 9
+
+-- the last field of a line, counted from 0
+abbrev pub last_field : Kind → ℕ
+last_field kind = fields kind - 1
 
 -- field j of a line, counted from 0, of which vs are the numbers: it is in its range
 abbrev pub in_range : Kind → List ℕ → ℕ → Bool
@@ -136,7 +144,7 @@ storey_values form s =
 abbrev pub member_values : Member → List ℕ
 member_values m =
     m.number ∷ m.long ∷ m.short ∷ m.area ∷ m.fcm ∷ m.fctm ∷ m.fyw ∷ m.depth ∷ m.height ∷ m.spacing ∷ m.core ∷ m.hoops
-    ∷ m.hooks ∷ m.zone ∷ m.strengthened ∷ m.factor ∷ m.damage ∷ m.nd ∷ []
+    ∷ m.hooks ∷ m.zone ∷ m.strengthened ∷ m.factor ∷ m.damage ∷ m.nd ∷ m.annex_e ∷ []
 
 abbrev pub case_values : LoadCase → List ℕ
 case_values k = k.nk ∷ k.me ∷ k.mp ∷ k.ve ∷ k.vr ∷ k.shear ∷ k.rotation ∷ k.drift ∷ []
@@ -171,8 +179,9 @@ case_by f j =
 abbrev pub old_cases : (ℕ → ℕ) → List LoadCase
 old_cases f = case_by f 18 ∷ no_case ∷ no_case ∷ no_case ∷ []
 
-abbrev pub member_by : (ℕ → ℕ) → List LoadCase → Member
-member_by f cases =
+-- a member of the first 18 fields of its M line, the last one and its cases
+abbrev pub member_by : (ℕ → ℕ) → ℕ → List LoadCase → Member
+member_by f annex_e cases =
     record {
       number = f 0;
       long = f 1;
@@ -192,8 +201,13 @@ member_by f cases =
       factor = f 15;
       damage = f 16;
       nd = f 17;
+      annex_e = annex_e;
       cases = cases;
     }
+
+-- the member of an M line of the old form
+abbrev pub old_member : (ℕ → ℕ) → Member
+old_member f = member_by f (f (last_field M)) (old_cases f)
 
 -- a member with one load case: what is judged
 abbrev pub with_case : Member → LoadCase → MemberCase
@@ -217,6 +231,7 @@ with_case m k =
       factor = m.factor;
       damage = m.damage;
       nd = m.nd;
+      annex_e = m.annex_e;
       case = k;
     }
 
@@ -224,11 +239,11 @@ with_case m k =
 abbrev pub in_case : ℕ → Member → MemberCase
 in_case c m = with_case m (case_of c m)
 
--- its 26 numbers, in the order of an M line of the old form
+-- its 27 numbers, in the order of an M line of the old form
 abbrev pub member_case_values : MemberCase → List ℕ
 member_case_values m =
     m.number ∷ m.long ∷ m.short ∷ m.area ∷ m.fcm ∷ m.fctm ∷ m.fyw ∷ m.depth ∷ m.height ∷ m.spacing ∷ m.core ∷ m.hoops
-    ∷ m.hooks ∷ m.zone ∷ m.strengthened ∷ m.factor ∷ m.damage ∷ m.nd ∷ case_values m.case
+    ∷ m.hooks ∷ m.zone ∷ m.strengthened ∷ m.factor ∷ m.damage ∷ m.nd ∷ (case_values m.case ++ (m.annex_e ∷ []))
 
 -- the first refusal of a record by itself, 0 where there is none.
 -- A header: 3, a field outside its range, or a form that is not known; 7, H_T > 30,000 or n_s > 10

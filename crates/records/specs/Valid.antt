@@ -30,6 +30,7 @@ pub record Valid (m : MemberCase) : Type 0 where
   pub factor : m.factor ≤ 100
   pub damage : m.damage ≤ 4
   pub nd : m.nd ≤ 29_999_999
+  pub annex-e : m.annex_e ≤ 1
   pub nk : m.case.nk ≤ 29_999_999
   pub me : m.case.me ≤ 9_999_999
   pub mp : m.case.mp ≤ 9_999_999

@@ -18,16 +18,19 @@ pub const HEADER_FIELDS: usize = 6;
 
 pub const STOREY_FIELDS: usize = 3;
 
-pub const MEMBER_FIELDS: usize = 26;
+pub const MEMBER_FIELDS: usize = 27;
 
 // In the form of four cases: S, M and D.
 pub const STOREY_CASES_FIELDS: usize = 6;
 
-pub const MEMBER_CASES_FIELDS: usize = 18;
+pub const MEMBER_CASES_FIELDS: usize = 19;
 
 pub const CASE_FIELDS: usize = 9;
 
 pub const FIELDS_MOST: usize = MEMBER_FIELDS;
+
+// Where a load case begins in an M line of the old form, counted from 0.
+pub const CASE_AT: usize = 18;
 
 // The B line.
 #[repr(C)]
@@ -93,6 +96,8 @@ pub struct Member {
     pub damage: u64,
     // N_D, counted from -20,000,000
     pub nd: u64,
+    // detailed to annex E, 0 or 1
+    pub annex_e: u64,
     // the cases that the form lacks hold 0
     pub cases: [LoadCase; CASES],
 }
@@ -138,6 +143,7 @@ pub struct MemberCase {
     pub factor: u64,
     pub damage: u64,
     pub nd: u64,
+    pub annex_e: u64,
     pub case: LoadCase,
 }
 

@@ -1,12 +1,13 @@
 // The record of some numbers in the order of its line's fields, and what a record holds in a load case.
 ghost use Rattle.std.specs.Prelude.{◌≡◌, ◌≤◌, ℕ, ◌∷◌, get_or};
 ghost use Rattle.records.specs.Forms.{form_number};
-ghost use Rattle.records.specs.Records.{header_values, storey_values, member_values, case_values, member_case_values, storey_kind, member_kind, fields, header_by, storey_by, case_by, member_by, old_cases, no_case, case_count, shear_of, with_case, in_case};
+ghost use Rattle.records.specs.Records.{header_values, storey_values, member_values, case_values, member_case_values, storey_kind, member_kind, fields, header_by, storey_by, case_by, member_by, old_member, no_case, case_count, shear_of, with_case, in_case};
 
 use crate::form::Form;
 use crate::{
-    CASE_FIELDS, CASES, FIELDS_MOST, HEADER_FIELDS, Header, Kind, LoadCase, MEMBER_CASES_FIELDS,
-    MEMBER_FIELDS, Member, MemberCase, STOREY_CASES_FIELDS, STOREY_FIELDS, Storey, ZERO_FORCE,
+    CASE_AT, CASE_FIELDS, CASES, FIELDS_MOST, HEADER_FIELDS, Header, Kind, LoadCase,
+    MEMBER_CASES_FIELDS, MEMBER_FIELDS, Member, MemberCase, STOREY_CASES_FIELDS, STOREY_FIELDS,
+    Storey, ZERO_FORCE,
 };
 use std::array;
 
@@ -182,9 +183,9 @@ impl LoadCase {
 }
 
 impl Member {
-    // Of the first 18 numbers of an M line, with its cases.
-    pub fn with_cases(vs: &[u64; FIELDS_MOST], cases: [LoadCase; CASES]) -> Member
-        ensures { result ≡ member_by (λ (j : ℕ). get_or vs.now j 0) cases }
+    // Of the first 18 numbers of an M line, with its last field and its cases.
+    pub fn with_cases(vs: &[u64; FIELDS_MOST], annex_e: u64, cases: [LoadCase; CASES]) -> Member
+        ensures { result ≡ member_by (λ (j : ℕ). get_or vs.now j 0) annex_e cases }
     {
         Member {
             number: vs[0],
@@ -205,17 +206,18 @@ impl Member {
             factor: vs[15],
             damage: vs[16],
             nd: vs[17],
+            annex_e,
             cases,
         }
     }
 
     // Of an M line's numbers in the old form, whose fields 19 to 26 are its one case.
     pub fn of(vs: &[u64; FIELDS_MOST]) -> Member
-        ensures { result ≡ member_by (λ (j : ℕ). get_or vs.now j 0) (old_cases (λ (j : ℕ). get_or vs.now j 0)) }
+        ensures { result ≡ old_member (λ (j : ℕ). get_or vs.now j 0) }
     {
-        let case = LoadCase::from_number(vs, MEMBER_CASES_FIELDS);
+        let case = LoadCase::from_number(vs, CASE_AT);
         let none = LoadCase::none();
-        Member::with_cases(vs, [case, none, none, none])
+        Member::with_cases(vs, vs[MEMBER_FIELDS - 1], [case, none, none, none])
     }
 
     // The numbers of its M line in the form of four cases.
@@ -241,6 +243,7 @@ impl Member {
             self.factor,
             self.damage,
             self.nd,
+            self.annex_e,
         ]
     }
 
@@ -266,6 +269,7 @@ impl Member {
             factor: self.factor,
             damage: self.damage,
             nd: self.nd,
+            annex_e: self.annex_e,
             case,
         }
     }
@@ -311,6 +315,7 @@ impl MemberCase {
             c.shear,
             c.rotation,
             c.drift,
+            m.annex_e,
         ]
     }
 }

@@ -52,6 +52,7 @@ member number nd cases =
       factor = 100;
       damage = 0;
       nd = zero_force + nd;
+      annex_e = 0;
       cases = cases;
     }
 

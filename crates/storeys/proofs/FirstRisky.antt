@@ -11,11 +11,10 @@ use borrow.Author.Tests.{eq-eqb, ne_eqb}
 use Rattle.std.specs.Prelude.{Ok, Err, Option, None, Some}
 use Rattle.std.specs.Option.{is_some, ForSome}
 use Rattle.std.specs.List.{AllWithin, HoldsAt}
-use Rattle.std.proofs.Common.{rules}
 use Rattle.std.proofs.lemmas.Iterator.{YieldsList}
 use Rattle.std.proofs.lemmas.Iterator.Consumers.{YieldsList-from_shown}
 use Rattle.records.specs.Forms.{form_number}
-use Rattle.records.specs.Records.{Survey, survey_of}
+use Rattle.records.specs.Records.{survey_of}
 use Rattle.records.specs.declared.{Header.Header, Storey.Storey, Member.Member}
 use Rattle.records.specs.Refusals.{refusal_number}
 use Rattle.records.specs.declared.refusal.Refusal.{Refusal}
@@ -131,8 +130,3 @@ module _ (h : Header) (ss : List Storey) (ms : List Member) where
   judged _ c clear (first i l e f) =
       let some = any-holds (risky_in (survey_of h ss ms)) (length ss) i l e in
       record { same = rw (eq-eqb (records_fault (survey_of h ss ms)) 0 clear, some, place-named (i + 1)) refl; place = named i l e }
-
--- a place that is found is counted from 1
-pub first-counted : (a : Survey) (r : Option ℕ) → FirstRisky a r → ForSome r (λ n. 0 < n)
-first-counted a _ (none f) n e = search rules
-first-counted a _ (first i l t f) n e = omega (arith, ap place_of e)

@@ -2,7 +2,6 @@ pub mod Accepted
 pub mod Rows
 pub mod Loops
 pub mod Called
-pub mod Verdicts
 pub mod Shears
 pub mod Cases
 pub mod GoodStoreys

@@ -4,7 +4,7 @@ use native.Mathlib.Omega.{arith}
 use native.Mathlib.Numerals.{add-one}
 use mathlib.Core.Bool.{Bool, true, false, ◌||◌, or-false, or_assoc}
 use mathlib.Core.List.{List, [], ◌∷◌}
-use mathlib.Core.Path.{◌≡◌, refl, ap, sym, ◌∙◌}
+use mathlib.Core.Path.{◌≡◌, ap, sym, ◌∙◌}
 use lib.Dec.{eqb}
 use lib.ListN.{length, drop, get_or, drop_of_length-le}
 use lib.Seq.{drop-cons}
@@ -21,7 +21,7 @@ use Rattle.checks.proofs.Refusals.{one}
 use Rattle.checks.proofs.RowLaws.{row-good as good-row}
 use Rattle.records.specs.Blank.{no_member}
 use Rattle.totals.specs.declared.Tally.{Tally}
-use Rattle.totals.specs.Totals.{weight_of, no_tally, added_wall, met_by}
+use Rattle.totals.specs.Totals.{weight_of, added_wall, met_by}
 use Rattle.storeys.specs.Rows.{Rows}
 use Rattle.storeys.specs.Tally.{with_member, tally_of, AddsUp, walls_from, walls_suffice_of}
 use Rattle.storeys.proofs.Rows.{nd-most}
@@ -98,20 +98,6 @@ tally-is : (t : Tally) (n a b d : ℕ) (o : Bool) → t.members ≡ n → t.axia
 tally-is t n a b d o m e f g h = rw (← m, ← e, ← f, ← g, ← h)
 
 module _ (k : ℕ) (met : Bool) (c : ℕ) (rows : List Member) where
-  pub going-none : Going k met c rows no_tally 0
-  going-none =
-      record {
-        within = omega arith;
-        count = refl;
-        axial = omega arith;
-        shears = omega arith;
-        anyone = refl;
-        damage = omega arith;
-        axial-most = omega arith;
-        over-most = omega arith;
-        damage-most = omega arith;
-      }
-
   module _ (form : ℕ) (i : c < case_count form) (g : Rows form rows) (t : Tally) (j : ℕ) (u : Going k met c rows t j) (h : j < length rows) where
     pub tally-room : knowledge k ≡ true → AddsUp t k (in_case c (member_in rows j))
     tally-room l =

@@ -1,4 +1,5 @@
 //! The independent program's records as those of the proved library.
+use independent::lines::BEFORE_CASE;
 use llunareth::{HEADER_NUMBERS, MEMBER_NUMBERS, ZERO_FORCE};
 
 pub fn header_row(h: &independent::Header) -> [u64; HEADER_NUMBERS] {
@@ -10,11 +11,11 @@ pub fn storey_row(s: &independent::Storey) -> llunareth::Storey {
     llunareth::Storey { number: s.number, shears: s.shears, count: s.count }
 }
 
-/// N_D, the last of its own numbers, and N_K, the first of each case, are counted from -20,000,000.
+/// N_D, the last of its own numbers but one, and N_K, the first of each case, are counted from -20,000,000.
 pub fn member_row(m: &independent::Member) -> llunareth::Member {
     let zero = i128::from(ZERO_FORCE);
     let mut values = m.values().to_vec();
-    *values.last_mut().expect("N_D") += zero;
+    values[BEFORE_CASE - 1] += zero;
     for case in &m.cases {
         let first = values.len();
         values.extend(case.values());

@@ -9,9 +9,9 @@ pub const FORMS: [u64; 2] = [OLD_FORM, CASE_FORM];
 /// The members of each storey in surveys of 10 and 100 members.
 pub const BOTH: [&[u64]; 2] = [&[5; 2], &[25; 4]];
 
-/// And in those of as many members as a file of 65,536 bytes holds in six storeys: 311, or 147 in four cases.
+/// And in those of as many members as a file of 65,536 bytes holds in six storeys: 299, or 144 in four cases.
 pub fn sizes(form: u64) -> [&'static [u64]; 3] {
-    let most: &[u64] = if form == CASE_FORM { &[25, 25, 25, 24, 24, 24] } else { &[52, 52, 52, 52, 52, 51] };
+    let most: &[u64] = if form == CASE_FORM { &[24; 6] } else { &[50, 50, 50, 50, 50, 49] };
     [BOTH[0], BOTH[1], most]
 }
 
@@ -59,7 +59,7 @@ pub fn survey(form: u64, sizes: &[u64]) -> Survey {
         let first = survey.members.len();
         for j in 0..count {
             let kind = KINDS[survey.members.len() % KINDS.len()];
-            survey.members.push(Member { number: 1_000 * number + j + 1, ..member(&mut rng, form, kind) });
+            survey.members.push(Member { number: 1_000 * number + j + 1, annex_e: j % 2, ..member(&mut rng, form, kind) });
         }
         let shear = |i: usize| survey.members[first..].iter().map(|m| m.cases[i].v).sum();
         survey.storeys.push(Storey { number, shears: std::array::from_fn(shear), count });

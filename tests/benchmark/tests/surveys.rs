@@ -38,7 +38,7 @@ fn both_programs_agree() {
 
 #[test]
 fn members_and_storeys() {
-    for (form, members) in FORMS.into_iter().zip([[10, 100, 311], [10, 100, 147]]) {
+    for (form, members) in FORMS.into_iter().zip([[10, 100, 299], [10, 100, 144]]) {
         assert_eq!(sizes(form).map(|sizes| survey(form, sizes).members.len()), members);
         for sizes in sizes(form) {
             assert!(sizes.len() <= 10 && sizes.iter().all(|&count| count <= 200));

@@ -62,6 +62,7 @@ static void print_member(const struct llunareth_member *m)
     const uint64_t numbers[] = {
         m->number,  m->long_side, m->short_side, m->area,  m->fcm,  m->fctm,         m->fyw,    m->depth,  m->height,
         m->spacing, m->core,      m->hoops,      m->hooks, m->zone, m->strengthened, m->factor, m->damage, m->nd,
+        m->annex_e,
     };
     print("M", numbers, COUNT(numbers));
     for (size_t c = 0; c < LLUNARETH_CASES; c++) {

@@ -10,7 +10,7 @@
 
 #include "llunareth.h"
 
-enum { STACK = 1 << 20, FILLED = 0xa5, STOREYS = 10, MEMBERS = 2000, FILE_ROOM = 900000, TEXT_ROOM = 900000 };
+enum { STACK = 1 << 20, FILLED = 0xa5, STOREYS = 10, MEMBERS = 2000, FILE_ROOM = LLUNARETH_WRITE_MOST, TEXT_ROOM = 900000 };
 
 static unsigned char stack[STACK];
 static ucontext_t caller, callee;

@@ -5,7 +5,7 @@ pub mod spectrum;
 pub mod surveys;
 
 use generator::{edge_member_for, file_len, one_case, sheet_len, Rng};
-use independent::lines::{cases_of, CASES, CASE_FORM, LOAD_CASE, MEMBER, OLD_FORM};
+use independent::lines::{cases_of, BEFORE_CASE, CASES, CASE_FORM, LOAD_CASE, MEMBER, OLD_FORM};
 use independent::{Fraction, Header, LoadCase, Member, Refusal, Storey, Survey};
 use llunareth::{raw, BuildingFinding, MemberFinding, StoreyCaseFinding, StoreyFinding};
 use llunareth::{HEADER_NUMBERS, MEMBER_NUMBERS, STOREY_NUMBERS};
@@ -25,7 +25,7 @@ pub const REFUSALS: usize = 13;
 
 /// What is added to a number of a member, counted from 0, to store it: N_D and the N_K of each case are counted from -20,000,000.
 fn member_shift(j: usize) -> i128 {
-    let is_force = j + 1 == MEMBER.len() || (j >= MEMBER.len() && (j - MEMBER.len()) % LOAD_CASE.len() == 0);
+    let is_force = j + 1 == BEFORE_CASE || (j >= MEMBER.len() && (j - MEMBER.len()) % LOAD_CASE.len() == 0);
     if is_force { llunareth::ZERO_FORCE.into() } else { 0 }
 }
 
@@ -392,9 +392,9 @@ pub fn by_storey(survey: &Survey) -> Vec<(Storey, &[Member])> {
     survey.storeys.iter().map(|s| (*s, take(s.count))).collect()
 }
 
-/// Document 01's worked example.
+/// Document 01's worked example, its columns not detailed to annex E.
 pub fn worked_example() -> Survey {
-    let once = [1, 300, 300, 90_000, 100, 110, 2_200, 270, 3_000, 200, 250, 100, 0, 0, 0, 100, 0, 3_150];
+    let once = [1, 300, 300, 90_000, 100, 110, 2_200, 270, 3_000, 200, 250, 100, 0, 0, 0, 100, 0, 3_150, 0];
     let load = LoadCase::from_values(&[3_150, 600, 200, 60, 100, 200, 9_000, 0]);
     let first = Member::from_values(&once, one_case(load));
     Survey {

@@ -14,7 +14,7 @@ pub fn all() -> Vec<(&'static str, Vec<u8>)> {
     accepted.into_iter().chain(refused()).collect()
 }
 
-fn accepted() -> [(&'static str, Survey); 15] {
+fn accepted() -> [(&'static str, Survey); 18] {
     let first_case = |survey: Survey| survey_in_case(0, &survey);
     [
         ("plain-block", old_form::plain_block()),
@@ -32,6 +32,9 @@ fn accepted() -> [(&'static str, Survey); 15] {
         ("class-3-column-c", old_form::column_c()),
         ("class-4-wall-a", old_form::wall_a()),
         ("class-5-wall-b", old_form::wall_b()),
+        ("strengthened-wall-not-detailed", old_form::strengthened_wall(0)),
+        ("strengthened-wall-detailed", old_form::strengthened_wall(1)),
+        ("cases-strengthened-wall", four_cases::strengthened_wall()),
     ]
 }
 
@@ -39,13 +42,14 @@ fn accepted() -> [(&'static str, Survey); 15] {
 const F_CM: usize = 5;
 const CASE_NUMBER: usize = 1;
 
-fn refused() -> [(&'static str, Vec<u8>); 9] {
+fn refused() -> [(&'static str, Vec<u8>); 10] {
     let block = &old_form::plain_block();
     let exchange = |m: &mut Member| swap(&mut m.long_side, &mut m.short_side);
     let eleven = Header { height: 33_000, storeys_above_ground: 11, ..block.header };
     let in_cases = &four_cases::risky_in_case_3();
     [
         ("refusal-1-column-left-out", lines_changed(block, |lines| drop(lines.remove(6 - 1)))),
+        ("refusal-1-without-last-field", lines_changed(block, |lines| without_last_field(lines))),
         ("refusal-2-decimal-comma", lines_changed(block, |lines| lines[3 - 1].set_raw(F_CM, b"12,0"))),
         ("refusal-3-no-moment-capacity", records_changed(block, |survey| survey.members[4].cases[0].m_p = 0)),
         ("refusal-4-sides-exchanged", records_changed(block, |survey| exchange(&mut survey.members[5]))),
@@ -69,6 +73,11 @@ fn lines_changed(survey: &Survey, change: impl FnOnce(&mut Vec<Line>)) -> Vec<u8
     let mut lines = survey_lines(&survey.header, &survey.storeys, &survey.members);
     change(&mut lines);
     file_of(&lines)
+}
+
+/// Every `M` line as it was before its last field, "detailed to annex E".
+fn without_last_field(lines: &mut [Line]) {
+    lines.iter_mut().filter(|line| line.tag == b'M').for_each(|line| drop(line.fields.pop()));
 }
 
 /// The building of these floors: storeys, and the members of each, are numbered from 1, and a storey's shear is the total V of its members.

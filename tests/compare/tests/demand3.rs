@@ -1,4 +1,4 @@
-//! Demand 3 run through the proved calls, in both forms: surveys that meet all its conditions, and for seven of them a pair that breaks only that
+//! Demand 3 run through the proved calls, in both forms: surveys that meet all its conditions, and for eight of them a pair that breaks only that
 //! one, in the old form and in one of four cases.
 use compare::{judge_building, judge_member, judge_storey, member_numbers, member_rows, plain_column};
 use generator::{is_wall, one_case, valid_survey, Rng};
@@ -91,7 +91,7 @@ fn kept(before: &[bool], after: &[bool]) -> bool {
 #[test]
 fn a_worse_survey_in_another_order_never_clears() {
     let mut rng = Rng::new(SEED);
-    let (mut risky, mut a_to_c, mut tension, mut walls, mut damaged) = ([0; 2], 0, 0, 0, 0);
+    let (mut risky, mut a_to_c, mut tension, mut walls, mut damaged, mut halved) = ([0; 2], 0, 0, 0, 0, 0);
     for _ in 0..1_500 {
         let first = valid_survey(&mut rng);
         let (k, form) = (first.header.knowledge, first.header.form);
@@ -134,13 +134,15 @@ fn a_worse_survey_in_another_order_never_clears() {
                 tension += u32::from(m.cases.iter().any(|c| c.n_k < 0));
                 walls += u32::from(is_wall(m));
                 damaged += u32::from(m.damage_kind > 0);
+                assert_eq!((m.hooks, m.boundary_zone, m.strengthened, m.annex_e), (n.hooks, n.boundary_zone, n.strengthened, n.annex_e), "marks");
+                halved += u32::from((m.strengthened, m.annex_e) == (1, 0) && classes(k, form, m).contains(&5));
             }
         }
     }
     assert!(a_to_c > 0, "columns go from A to C");
     let [old, cases] = risky;
-    let counts = [old, cases, tension, walls, damaged];
-    assert!(counts.iter().all(|&n| n > 100), "Risky in the old form and in cases, in tension, walls, damaged: {counts:?}");
+    let counts = [old, cases, tension, walls, damaged, halved];
+    assert!(counts.iter().all(|&n| n > 100), "Risky in the old form and in cases, in tension, walls, damaged, halved: {counts:?}");
 }
 
 /// A building of the old form, of one storey with one member.
@@ -181,7 +183,7 @@ fn cleared(one: &Survey, other: &Survey) {
 }
 
 #[test]
-fn seven_conditions_cannot_be_left_out() {
+fn eight_conditions_cannot_be_left_out() {
     // equal knowledge level
     cleared(&single(90, 1_000, |_, c| c.m_e = 95), &single(100, 1_000, |_, c| c.m_e = 95));
     // equal storey shears
@@ -210,4 +212,13 @@ fn seven_conditions_cannot_be_left_out() {
         })
     };
     cleared(&carrying(399), &carrying(400));
+    // equal marks of annex E: the limit of m is 250,000 with 0 and 500,000 with 1
+    let marked = |annex_e| {
+        single(100, 1_000, move |m, c| {
+            wall(m, c);
+            (m.strengthened, m.annex_e) = (1, annex_e);
+            (c.m_e, c.v, c.v_r, c.drift) = (300, 1_000, 900, 7_500);
+        })
+    };
+    cleared(&marked(0), &marked(1));
 }

@@ -238,7 +238,7 @@ fn the_program_on_input_that_comes_in_parts() {
     let example = write_survey(&worked_example());
     same_printed(&example, 1, pause);
     same_printed(&example[..example.len() - 1], 1, pause);
-    for chunk in [7, 211, 997, 4_095, 4_097, 65_535] {
+    for chunk in [7, 219, 997, 4_095, 4_097, 65_535] {
         for form in FORMS {
             same_printed(&write_survey(&surveys_at_rows(form)[0]), chunk, pause);
         }

@@ -42,6 +42,8 @@ fn every_refusal_of_a_file() {
         (b"".to_vec(), ROWS, 1, 1),
         (file(|l| l[2].set_raw(5, b"05")), ROWS, 2, 3),
         (file(|l| l[0].set(1, 95)), ROWS, 3, 1),
+        (file(|l| drop(l[2].fields.pop())), ROWS, 1, 3),
+        (file(|l| l[2].set(27, 2)), ROWS, 3, 3),
         (file(|l| l[2].set(3, 301)), ROWS, 4, 3),
         (file(|l| l[3].set(1, 1)), ROWS, 5, 4),
         (file(|l| l.push(l[3].clone())), ROWS, 6, 5),
@@ -59,6 +61,8 @@ fn every_refusal_of_a_file_in_cases() {
         (file(|l| drop(l.pop())), ROWS, 1, 12),
         (file(|l| l[3].set_raw(5, b"05")), ROWS, 2, 4),
         (file(|l| l[11].set(4, 0)), ROWS, 3, 12),
+        (file(|l| drop(l[7].fields.pop())), ROWS, 1, 8),
+        (file(|l| l[7].set(19, 2)), ROWS, 3, 8),
         (file(|l| l[7].set(3, 301)), ROWS, 4, 8),
         (file(|l| l[7].set(1, 1)), ROWS, 5, 8),
         (file(|l| l.push(l[11].clone())), ROWS, 6, 13),
@@ -103,8 +107,9 @@ fn a_member_judged_and_refused() {
             assert_out_left(Room::of_member(form), |out| raw::judge_member(k, form, [false; 4], &numbers, out))
         };
         let damaged = Member { damage_kind: 5, ..member };
+        let marked = Member { annex_e: 2, ..member };
         let narrow = Member { long_side: 299, ..member };
-        assert_eq!((judge(95, form, member), judge(100, form, damaged), judge(100, form, narrow)), (3, 3, 4));
+        assert_eq!((judge(95, form, member), judge(100, form, damaged), judge(100, form, marked), judge(100, form, narrow)), (3, 3, 3, 4));
         assert_eq!((judge(100, 3, member), judge(100, OLD_FORM + CASE_FORM - form, member), judge(100, form, member)), (3, 3, 0));
         let (mut out, put) = (marks(44), 10 * cases_of(form));
         raw::judge_member(100, form, [false; 4], &member_numbers(&member).expect("stored numbers"), &mut out);
@@ -116,11 +121,12 @@ fn a_member_judged_and_refused() {
 
 /// The worked examples with each refusal of a building that rows can have, and as they are.
 fn surveys() -> Vec<(u64, Survey, &'static str)> {
-    let changes: [(u64, fn(&mut Survey)); 8] = [
+    let changes: [(u64, fn(&mut Survey)); 9] = [
         (1, |s| s.storeys[0].count = 3),
         (3, |s| s.storeys[0].shears[0] = 0),
         (3, |s| s.header.form = OLD_FORM + CASE_FORM - s.header.form),
         (3, |s| s.members[1].cases[3].m_e = 10_000_000),
+        (3, |s| s.members[1].annex_e = 2),
         (4, |s| s.members[1].short_side = 301),
         (5, |s| s.members[1].number = 1),
         (7, |s| s.header.height = 30_001),

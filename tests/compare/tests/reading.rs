@@ -1,13 +1,13 @@
 //! The reading call and the checks of records against the independent program.
 use compare::{
-    at_edges, header_fault, header_numbers, header_of, member_fault, member_numbers, member_of, read, storey_fault, storey_numbers, storey_of,
-    worked_example, FILE_REFUSALS, FORMS, REFUSALS,
+    at_edges, header_fault, header_numbers, header_of, member_fault, member_numbers, member_of, read, same_member, storey_fault, storey_numbers,
+    storey_of, worked_example, FILE_REFUSALS, FORMS, REFUSALS,
 };
 use generator::{
-    any_file, any_form, check_header, check_member, check_storey, damage, file_of, lent_rows, number_field, survey_lines, valid_survey,
-    valid_survey_of, wild_header, wild_member, wild_storey, write_survey, Line, Rng,
+    any_file, any_form, check_header, check_member, check_storey, damage, edge_member, file_of, is_wall, lent_rows, number_field, survey_lines,
+    valid_survey, valid_survey_of, wild_header, wild_member, wild_storey, write_survey, Line, Rng,
 };
-use independent::lines::{CASE_FORM, LOAD_CASE, OLD_FORM};
+use independent::lines::{CASE_FORM, LOAD_CASE, MEMBER, OLD_FORM};
 use independent::{Refusal, Survey};
 use llunareth::{raw, LoadCase, HEADER_NUMBERS, MEMBER_NUMBERS, STOREY_NUMBERS};
 
@@ -196,6 +196,77 @@ fn absent_lines_at_every_place() {
     }
 }
 
+/// The field "detailed to annex E" is the last of every M line, 27 in the old form and 19 in cases: 0 or 1, else 3; another writing is 2; an M line
+/// that ends before it, as files had them before, is 1, and so is one with a field after it.
+#[test]
+fn the_last_field_of_every_member() {
+    for (form, last, length) in [(OLD_FORM, 27, 210), (CASE_FORM, 19, 146)] {
+        let good = lines(form);
+        let members: Vec<usize> = (0..good.len()).filter(|&at| good[at].tag == b'M').collect();
+        assert_eq!(members.len(), 3);
+        for (at, line) in members.iter().map(|&at| (at, at as u64 + 1)) {
+            for mark in [0, 1] {
+                assert_eq!(same(&with(form, |l| l[at].set(last, mark)), 2, 3), None);
+            }
+            for value in [2, 3, 10, 100, 9_999_999] {
+                refused(&with(form, |l| l[at].set(last, value)), ROWS, 3, line);
+            }
+            for text in ["", "x", "-1", "-0", "+1", "00", "01", "1 ", "1.0", "0,0", "12345678", "\0"] {
+                refused(&with(form, |l| l[at].set_raw(last, text.as_bytes())), ROWS, 2, line);
+            }
+            assert_eq!(with(form, |l| drop(l[at].fields.pop())).len(), file_of(&good).len() - 8);
+            refused(&with(form, |l| drop(l[at].fields.pop())), ROWS, 1, line);
+            refused(&with(form, |l| l[at].fields.push(number_field(0))), ROWS, 1, line);
+        }
+        let before = with(form, |l| members.iter().for_each(|&at| drop(l[at].fields.pop())));
+        assert_eq!(before.split(|&b| b == b'\n').nth(2).map(|line| line.len() + 1), Some(length));
+        refused(&before, ROWS, 1, 3);
+    }
+}
+
+/// It is looked at after all other fields, and before 4 and 5.
+#[test]
+fn the_last_field_in_the_order_of_refusals() {
+    for (form, last, later) in [(OLD_FORM, 27, 5), (CASE_FORM, 19, 13)] {
+        let wrong = |change: &dyn Fn(&mut Line)| {
+            with(form, |l| {
+                l[later].set(last, 2);
+                change(&mut l[later]);
+            })
+        };
+        let (line, number) = (later as u64 + 1, small(form).members[1].number);
+        refused(&wrong(&|_| ()), ROWS, 3, line);
+        refused(&wrong(&|m| m.set_raw(last - 1, b"01")), ROWS, 2, line);
+        refused(&wrong(&|m| m.set_raw(5, b"05")), ROWS, 2, line);
+        refused(&wrong(&|m| m.set_raw(last, b"02")), ROWS, 2, line);
+        refused(&wrong(&|m| m.set(3, 99_999)), ROWS, 3, line);
+        refused(&wrong(&|m| m.set(1, number.into())), ROWS, 3, line);
+        refused(&wrong(&|_| ()), (2, 2), 8, line);
+    }
+}
+
+/// A record with another mark than 0 or 1 is 3, a column's as well as a wall's, strengthened or not; before its 4.
+#[test]
+fn a_mark_of_every_record() {
+    for form in FORMS {
+        let mut rng = Rng::new(SEED + 5);
+        let (mut columns, mut walls) = ([0; 2], [0; 2]);
+        while columns.iter().chain(&walls).any(|&n| n < 20) {
+            let m = edge_member(&mut rng, form);
+            (if is_wall(&m) { &mut walls } else { &mut columns })[m.strengthened as usize] += 1;
+            for annex_e in [0, 1, 2, 3, 256, 257, 1 << 32, (1 << 32) + 1, u64::MAX] {
+                let marked = independent::Member { annex_e, ..m };
+                let due = if annex_e < 2 { Ok(()) } else { Err(Refusal::of_record(3)) };
+                assert_eq!(member_fault(form, &member_numbers(&marked).unwrap()), due, "{marked:?}");
+                assert_eq!(same_member(100, form, [false; 4], &marked), due.err());
+                let narrow = independent::Member { short_side: m.long_side + 1, ..marked };
+                let due = if annex_e < 2 && narrow.short_side < 100_000 { 4 } else { 3 };
+                assert_eq!(member_fault(form, &member_numbers(&narrow).unwrap()), Err(Refusal::of_record(due)), "{narrow:?}");
+            }
+        }
+    }
+}
+
 /// An S or M line of the other form is 1 where it stands; the first S line tells the form, so there the line after it is.
 #[test]
 fn lines_of_the_other_form() {
@@ -225,7 +296,7 @@ fn accepted_rows_are_those_written() {
 #[test]
 fn a_force_handed_in_as_it_is_is_refused() {
     let good = member_numbers(&small(CASE_FORM).members[0]).unwrap();
-    for j in [17, 18, 26, 34, 42] {
+    for j in [17, 19, 27, 35, 43] {
         for force in [0, 1, 3_150, 999_999, 1_000_000, 9_999_999] {
             let mut numbers = good;
             numbers[j] = force;
@@ -252,7 +323,7 @@ fn a_lacking_case_of_zeros_is_refused() {
 #[test]
 fn a_lacking_case_holds_nothing_else() {
     let s = worked_example();
-    for j in 18 + LOAD_CASE.len()..MEMBER_NUMBERS {
+    for j in MEMBER.len() + LOAD_CASE.len()..MEMBER_NUMBERS {
         let mut numbers = member_numbers(&s.members[0]).unwrap();
         let none = numbers[j];
         for value in edges().into_iter().filter(|&value| value != none) {

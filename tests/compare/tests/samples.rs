@@ -99,11 +99,26 @@ fn each_class() {
 #[test]
 fn each_refusal() {
     for number in FILE_REFUSALS {
-        let sample = named(&format!("refusal-{number}-"));
-        let told = refusal_told(&sample.sheet).expect("a refusal");
-        assert_eq!((usize::from(told.number), told.line == 0), (number, number == 8), "{}", sample.name);
-        assert_eq!(sample.survey.len() > INPUT_MOST, number == 8, "{}", sample.name);
+        let start = format!("refusal-{number}-");
+        let shown: Vec<Sample> = samples::all().into_iter().filter(|sample| sample.name.starts_with(&start)).collect();
+        assert!(!shown.is_empty(), "a sample {start}");
+        for sample in shown {
+            let told = refusal_told(&sample.sheet).expect("a refusal");
+            assert_eq!((usize::from(told.number), told.line == 0), (number, number == 8), "{}", sample.name);
+            assert_eq!(sample.survey.len() > INPUT_MOST, number == 8, "{}", sample.name);
+        }
     }
+}
+
+/// The plain block as it was before the last field of the M line: with it put in, it is the plain block.
+#[test]
+fn a_file_without_the_last_field() {
+    let sample = named("refusal-1-without-last-field");
+    assert_eq!(refusal_told(&sample.sheet).map(|told| (told.number, told.line)), Some((1, 3)));
+    let text = String::from_utf8(sample.survey).expect("text");
+    let mended: String = text.lines().map(|line| if line.starts_with('M') { format!("{line}{:>8}\n", 0) } else { format!("{line}\n") }).collect();
+    assert_eq!(mended.as_bytes(), named("plain-block").survey);
+    assert!(text.lines().filter(|line| line.starts_with('M')).all(|line| line.len() + 1 == 210));
 }
 
 #[test]
@@ -166,6 +181,36 @@ fn plain_columns_keep_their_limits_beside_a_strengthened_one() {
         assert_eq!(survey_of(&sample).members[0].strengthened, 1, "listed first");
         assert_eq!(printed(&sample, 'B'), [[0, 0]], "not Risky");
     }
+}
+
+/// Of each wall, in the order of the sheet: class, limits of m and rotation, over.
+fn wall_lines(sample: &Sample) -> Vec<(u64, (u64, u64), u64)> {
+    let walls = floors(sample).into_iter().flat_map(|floor| floor.members).filter(|(_, line)| line[1] > 3);
+    walls.map(|(_, line)| (line[1], limits(&line), line[6])).collect()
+}
+
+#[test]
+fn a_strengthened_wall_by_its_mark() {
+    let [without, with] = ["strengthened-wall-not-detailed", "strengthened-wall-detailed"].map(named);
+    let differ = survey_of(&without).members.iter().zip(&survey_of(&with).members).filter(|(a, b)| a != b).count();
+    assert_eq!(differ, 2, "the walls");
+    let mut marked = survey_of(&without);
+    marked.members.iter_mut().filter(|m| m.strengthened == 1).for_each(|m| m.annex_e = 1);
+    assert_eq!(marked, survey_of(&with), "and nothing but their marks");
+    assert_eq!(wall_lines(&without), [(5, (230_496, 9_219), 1); 2]);
+    assert_eq!(wall_lines(&with), [(5, (460_993, 18_439), 0); 2]);
+    assert_eq!((printed(&without, 'B'), printed(&with, 'B')), (vec![vec![0, 1]], vec![vec![0, 0]]));
+}
+
+#[test]
+fn a_strengthened_wall_halved_where_it_is_of_class_b() {
+    let sample = named("cases-strengthened-wall");
+    let [along, back, across, again] = std::array::from_fn(|i| wall_lines(&sample)[2 * i]);
+    assert_eq!([along.0, back.0, across.0, again.0], [5, 5, 4, 4]);
+    assert_eq!([along.2, back.2, across.2, again.2], [1, 1, 0, 0]);
+    assert!(survey_of(&sample).members.iter().all(|m| m.annex_e == 0), "not detailed");
+    let risky: Vec<u64> = printed(&sample, 'S').iter().map(|s| s[6]).collect();
+    assert_eq!(risky, [1, 1, 0, 0]);
 }
 
 /// In each storey and case: the 0.40 condition; of each wall: boundary zone, m past its limit, over.

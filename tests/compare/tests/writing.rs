@@ -54,7 +54,7 @@ fn every_row_of_the_tables() {
 #[test]
 fn the_largest_surveys() {
     let mut rng = Rng::new(SEED + 2);
-    for (form, longest) in [(OLD_FORM, 420_310), (CASE_FORM, llunareth::WRITE_MOST)] {
+    for (form, longest) in [(OLD_FORM, 436_310), (CASE_FORM, llunareth::WRITE_MOST)] {
         for storeys in [1, 4, 10] {
             let survey = at_edges(&mut rng, form, storeys);
             in_every_buffer(&mut rng, &survey);
@@ -126,7 +126,7 @@ fn a_minus_where_a_force_is_negative() {
     assert_eq!((&lines[2][137..145], &lines[3][145..153]), ("      -1", " -999999"));
 }
 
-/// In four cases N_D stands at the end of the M line, N_K after the case number of a D line.
+/// In four cases N_D stands before the last field of the M line, N_K after the case number of a D line.
 #[test]
 fn a_minus_in_each_case() {
     for i in 0..4 {
@@ -137,7 +137,7 @@ fn a_minus_in_each_case() {
         round_trip(&survey);
         let text = String::from_utf8(file(&survey)).expect("text");
         let lines: Vec<&str> = text.lines().collect();
-        assert_eq!((&lines[2][137..], &lines[3 + i][1..17]), (" -999999", format!("{:>8}      -1", i + 1).as_str()));
+        assert_eq!((&lines[2][137..145], &lines[3 + i][1..17]), (" -999999", format!("{:>8}      -1", i + 1).as_str()));
     }
 }
 

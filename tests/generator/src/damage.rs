@@ -100,7 +100,7 @@ fn damage_line(rng: &mut Rng, lines: &mut Lines) {
     if rng.chance(25) && damage_cases(rng, lines) {
         return;
     }
-    match rng.below(32) {
+    match rng.below(34) {
         0 => {
             lines.remove(i);
         }
@@ -151,6 +151,7 @@ fn damage_line(rng: &mut Rng, lines: &mut Lines) {
             lines.push(line);
         }
         29 | 30 => other_form(rng, lines),
+        31 | 32 => without_last_field(rng, lines),
         _ => end_otherwise(rng, &mut lines[i]),
     }
 }
@@ -239,6 +240,22 @@ fn other_form(rng: &mut Rng, lines: &mut Lines) {
     }
 }
 
+/// One M line, or every one, without its last field, as files had them before
+/// it.
+fn without_last_field(rng: &mut Rng, lines: &mut Lines) {
+    let members = with_tag(lines, b'M');
+    if members.is_empty() {
+        return;
+    }
+    let one = members[near_line(rng, members.len())];
+    let every = rng.chance(50);
+    for i in members.into_iter().filter(|&i| every || i == one) {
+        let last = 1 + 8 * fields_in(&lines[i]).saturating_sub(1);
+        let end = (last + 8).min(lines[i].len());
+        lines[i].drain(last.min(end)..end);
+    }
+}
+
 // ---- bytes ----
 
 fn odd_byte(rng: &mut Rng) -> u8 {
@@ -270,7 +287,7 @@ fn remove_byte(rng: &mut Rng, mut bytes: Vec<u8>) -> Vec<u8> {
 fn cut_file(rng: &mut Rng, mut bytes: Vec<u8>) -> Vec<u8> {
     let length = match rng.below(3) {
         0 => bytes.len() - 1,
-        1 => bytes.len() - rng.index(bytes.len().min(211)),
+        1 => bytes.len() - rng.index(bytes.len().min(m_line(OLD_FORM).length() + 1)),
         _ => rng.index(bytes.len()),
     };
     bytes.truncate(length);
@@ -366,7 +383,7 @@ fn any_field(rng: &mut Rng, line: &[u8]) -> usize {
     if rng.chance(15) {
         // N_D and N_K.
         match line.first() {
-            Some(b'M') if fields >= 19 => return rng.pick(&[18, 19]),
+            Some(b'M') if fields > m_line(CASE_FORM).fields.len() => return rng.pick(&[18, 19]),
             Some(b'M') if fields >= 18 => return 18,
             Some(b'D') if fields >= 2 => return 2,
             _ => {}

@@ -92,6 +92,7 @@ fn ordinary(rng: &mut Rng) -> Member {
         strengthened: rng.chance(30) as u64,
         factor: factor(rng),
         damage_kind: if rng.chance(10) { n(rng, 1, 4) } else { 0 },
+        annex_e: rng.chance(50) as u64,
         ..Member::default()
     }
 }

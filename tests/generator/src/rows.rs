@@ -1,7 +1,7 @@
 //! Members at and one beside every row of the tables, whatever the seed.
 
 use crate::cases::one_case;
-use crate::edges::limits;
+use crate::edges::{is_wall, limits};
 use crate::sizes::members_most;
 use independent::lines::cases_of;
 use independent::{Header, LoadCase, Member, Storey, Survey};
@@ -13,8 +13,19 @@ const HOOPS: [u64; 2] = [500, 6_000];
 const WALL_AXIAL: [u64; 2] = [10_000, 25_000];
 const STRESS: [u64; 2] = [90_000, 130_000];
 
-/// Strengthened or not, and the reduction factor.
-const MARKS: [(u64, u64); 4] = [(0, 100), (1, 100), (0, 50), (1, 33)];
+/// Strengthened, detailed to annex E, and the reduction factor: of a column,
+/// which does not read the second, and of a wall.
+const COLUMN_MARKS: [(u64, u64, u64); 4] = [(0, 1, 100), (1, 0, 100), (0, 0, 50), (1, 1, 33)];
+const WALL_MARKS: [(u64, u64, u64); 8] = [
+    (0, 0, 100),
+    (0, 1, 100),
+    (1, 0, 100),
+    (1, 1, 100),
+    (0, 0, 33),
+    (0, 1, 33),
+    (1, 0, 33),
+    (1, 1, 33),
+];
 
 /// How far m and rotation stand from their limits.
 const STEPS: [(i64, i64); 4] = [(0, 0), (1, 0), (0, 1), (-1, -1)];
@@ -166,12 +177,18 @@ fn walls_b() -> Vec<Member> {
 }
 
 fn with_marks(m: &Member) -> Vec<Member> {
-    let marked = |&(strengthened, factor): &(u64, u64)| Member {
+    let marked = |&(strengthened, annex_e, factor): &(u64, u64, u64)| Member {
         strengthened,
+        annex_e,
         factor,
         ..*m
     };
-    MARKS.iter().map(marked).collect()
+    let marks: &[(u64, u64, u64)] = if is_wall(m) {
+        &WALL_MARKS
+    } else {
+        &COLUMN_MARKS
+    };
+    marks.iter().map(marked).collect()
 }
 
 /// The member with its demands at its limits and beside them, in each case

@@ -160,18 +160,19 @@ fn members(rng: &mut Rng, k: u64, form: u64, count: usize, calm: bool) -> Vec<Me
 fn twin(rng: &mut Rng, k: u64, form: u64, before: &Member) -> Member {
     let mut m = *before;
     let i = rng.index(cases_of(form));
-    match rng.below(6) {
+    match rng.below(7) {
         0 => m.strengthened = 1 - m.strengthened,
         1 => m.boundary_zone = 1 - m.boundary_zone,
-        2 => m.factor = rng.pick(&[0, 50, 100]),
-        3 => {
+        2 => m.annex_e = 1 - m.annex_e,
+        3 => m.factor = rng.pick(&[0, 50, 100]),
+        4 => {
             let mut values = m.values();
             let field = rng.between(1, MEMBER.len() as i128 - 1) as usize;
             let (least, most) = range(MEMBER[field]);
             values[field] = rng.beside(values[field]).clamp(least, most);
             m = Member::from_values(&values, m.cases);
         }
-        4 => {
+        5 => {
             let mut values = m.cases[i].values();
             let field = rng.index(LOAD_CASE.len());
             let (least, most) = range(LOAD_CASE[field]);

@@ -77,7 +77,7 @@ pub fn wild_member(rng: &mut Rng, form: u64) -> Member {
             m.short_side = rng.pick(&[m.long_side + 1, 99_999, m.long_side + 100]);
         }
         if !sides || rng.chance(20) {
-            for _ in 0..how_many(rng, 26) {
+            for _ in 0..how_many(rng, 27) {
                 spoil_member(rng, form, &mut m);
             }
         }

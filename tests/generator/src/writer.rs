@@ -1,6 +1,6 @@
 //! Writes survey files in the house columns, good or bad.
 
-use independent::lines::CASE_FORM;
+use independent::lines::{BEFORE_CASE, CASE_FORM};
 use independent::{Header, Member, Storey, Survey};
 
 /// A line in parts: each field's bytes as they will stand.
@@ -70,11 +70,13 @@ pub fn survey_lines(h: &Header, storeys: &[Storey], members: &[Member]) -> Vec<L
     lines
 }
 
-/// The M line, in four cases with its D lines.
+/// The M line, in four cases with its D lines. In the old form the one case
+/// stands before the last field.
 pub fn member_lines(form: u64, m: &Member) -> Vec<Line> {
     let once = m.values();
     if form != CASE_FORM {
-        let values = [&once[..], &m.cases[0].values()].concat();
+        let (before, after) = once.split_at(BEFORE_CASE);
+        let values = [before, &m.cases[0].values(), after].concat();
         return vec![Line::new(b'M', &values)];
     }
     let mut lines = vec![Line::new(b'M', &once)];

@@ -184,7 +184,7 @@ fn every_field_is_spoilt() {
 /// The lines of a good survey of a form with one member.
 fn good_lines(form: u64) -> Vec<Line> {
     let ones = LoadCase::from_values(&[1; 8]);
-    let mut values = [1; 18];
+    let mut values = [1; MEMBER.len()];
     values[1] = 99_999;
     let mut cases = one_case(ones);
     cases[..cases_of(form)].fill(ones);
@@ -357,6 +357,11 @@ fn up(a: i128, b: i128) -> i128 {
     ((a + b - 1) / b).min(9_999_999)
 }
 
+/// A wall of a class by its marks.
+fn wall_marks(class: u8, strengthened: u64, annex_e: u64) -> String {
+    format!("class {class} strengthened {strengthened} annex E {annex_e}")
+}
+
 /// A member in one of its cases.
 fn tally_member(t: &mut Tally, k: u64, share: bool, alone: &Member) {
     let (m, load) = (alone, alone.cases[0]);
@@ -372,6 +377,7 @@ fn tally_member(t: &mut Tally, k: u64, share: bool, alone: &Member) {
     );
     if !column {
         t.note(&format!("class {} zone {}", f.class, m.boundary_zone), true);
+        t.note(&wall_marks(f.class, m.strengthened, m.annex_e), true);
     }
     // Axial load at the rows of the class.
     let rows: &[i128] = match f.class {
@@ -564,6 +570,9 @@ fn expect_kinds(t: &mut Tally) {
     for class in 4..=5 {
         for zone in 0..=1 {
             t.note(&format!("class {} zone {}", class, zone), false);
+            for annex_e in 0..=1 {
+                t.note(&wall_marks(class, zone, annex_e), false);
+            }
         }
     }
 }

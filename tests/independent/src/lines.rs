@@ -64,8 +64,8 @@ const CASE_NUMBER: Field = Within(1, CASES as i128);
 /// The B line.
 pub const HEADER: [Field; 6] = [Knowledge, LENGTH, Within(1, 99), TILT, TILT, StoreyCount];
 
-/// What a member has once, fields 1 to 18.
-pub const MEMBER: [Field; 18] = [
+/// What a member has once: fields 1 to 18 and the last of the M line.
+pub const MEMBER: [Field; 19] = [
     NUMBER,
     LENGTH,
     LENGTH,
@@ -84,7 +84,11 @@ pub const MEMBER: [Field; 18] = [
     Within(0, 100),
     Within(0, 4),
     AXIAL,
+    MARK,
 ];
+
+/// So many of them stand before the case in the old form's M line.
+pub const BEFORE_CASE: usize = 18;
 
 /// What a member has in a load case, former fields 19 to 26.
 pub const LOAD_CASE: [Field; 8] = [
@@ -130,12 +134,14 @@ pub fn s_line(form: u64) -> Line {
     Line { tag: b'S', fields }
 }
 
-/// In the old form the one case stands behind what the member has once.
+/// In the old form the one case stands within what the member has once.
 pub fn m_line(form: u64) -> Line {
-    let mut fields = MEMBER.to_vec();
-    if form != CASE_FORM {
-        fields.extend(LOAD_CASE);
-    }
+    let (before, after) = MEMBER.split_at(BEFORE_CASE);
+    let fields = if form == CASE_FORM {
+        MEMBER.to_vec()
+    } else {
+        [before, &LOAD_CASE, after].concat()
+    };
     Line { tag: b'M', fields }
 }
 
@@ -155,8 +161,8 @@ mod tests {
         assert_eq!(b_line().length(), 1 + 6 * 8 + 1);
         assert_eq!(s_line(OLD_FORM).length(), 1 + 3 * 8 + 1);
         assert_eq!(s_line(CASE_FORM).length(), 1 + 6 * 8 + 1);
-        assert_eq!(m_line(OLD_FORM).length(), 1 + 26 * 8 + 1);
-        assert_eq!(m_line(CASE_FORM).length(), 1 + 18 * 8 + 1);
+        assert_eq!(m_line(OLD_FORM).length(), 1 + 27 * 8 + 1);
+        assert_eq!(m_line(CASE_FORM).length(), 1 + 19 * 8 + 1);
         assert_eq!(d_line().length(), 1 + 9 * 8 + 1);
     }
 

@@ -310,15 +310,22 @@ fn table_limits(class: u8, n: i128, rho: i128, v: i128, zone: bool) -> Pair {
     }
 }
 
-/// Strengthening, then the factor on the rotation limit, then rounding down.
-fn finished_limits(class: u8, strengthened: bool, factor: u64, table: Pair) -> (i128, i128) {
-    let (mut m_limit, mut rotation_limit) = table;
-    if strengthened && (class == COLUMN_A || class == COLUMN_B) {
-        let three_quarters = Fraction::new(3, 4);
-        m_limit = m_limit.times(three_quarters);
-        rotation_limit = rotation_limit.times(three_quarters);
+/// What a strengthened member keeps of both limits.
+fn strengthened_part(class: u8, annex_e: bool) -> Fraction {
+    match class {
+        COLUMN_A | COLUMN_B => Fraction::new(3, 4),
+        WALL_B if !annex_e => Fraction::new(1, 2),
+        _ => Fraction::whole(1),
     }
-    rotation_limit = rotation_limit.times(Fraction::new(factor as i128, 100));
+}
+
+/// The part kept, then the factor on the rotation limit, then rounding down.
+fn finished_limits(part: Fraction, factor: u64, table: Pair) -> (i128, i128) {
+    let m_limit = table.0.times(part);
+    let rotation_limit = table
+        .1
+        .times(part)
+        .times(Fraction::new(factor as i128, 100));
     (m_limit.rounded_down(), rotation_limit.rounded_down())
 }
 
@@ -332,7 +339,12 @@ fn limits(class: u8, m: &Member, load: &LoadCase) -> (i128, i128) {
         wall_stress(m, load),
         m.boundary_zone == 1,
     );
-    finished_limits(class, m.strengthened == 1, m.factor, table)
+    let part = if m.strengthened == 1 {
+        strengthened_part(class, m.annex_e == 1)
+    } else {
+        Fraction::whole(1)
+    };
+    finished_limits(part, m.factor, table)
 }
 
 #[cfg(test)]
@@ -340,7 +352,8 @@ mod tests {
     use super::*;
 
     fn rounded(class: u8, n: i128, rho: i128, v: i128, zone: bool) -> (i128, i128) {
-        finished_limits(class, false, 100, table_limits(class, n, rho, v, zone))
+        let table = table_limits(class, n, rho, v, zone);
+        finished_limits(Fraction::whole(1), 100, table)
     }
 
     /// Document 01's formulas with numbers ten times as large for the finer grid.
@@ -505,19 +518,35 @@ mod tests {
 
     #[test]
     fn rounded_once() {
+        let whole = Fraction::whole(1);
+        let three_quarters = Fraction::new(3, 4);
+        let half = Fraction::new(1, 2);
         // 3/4 of 16/3 is 4; rounded before, it would be 3.
         let pair = (Fraction::new(16, 3), Fraction::new(16, 3));
-        assert_eq!(finished_limits(COLUMN_A, false, 100, pair), (5, 5));
-        assert_eq!(finished_limits(COLUMN_A, true, 100, pair), (4, 4));
-        assert_eq!(finished_limits(COLUMN_B, true, 100, pair), (4, 4));
+        assert_eq!(finished_limits(whole, 100, pair), (5, 5));
+        assert_eq!(finished_limits(three_quarters, 100, pair), (4, 4));
         // 80 / 100 of 25/4 is 5; rounded before, it would be 4.
         let pair = (Fraction::new(25, 4), Fraction::new(25, 4));
-        assert_eq!(finished_limits(WALL_A, true, 80, pair), (6, 5));
-        assert_eq!(finished_limits(WALL_B, true, 80, pair), (6, 5));
-        assert_eq!(finished_limits(COLUMN_C, true, 80, pair), (6, 5));
-        assert_eq!(finished_limits(COLUMN_C, true, 0, pair), (6, 0));
+        assert_eq!(finished_limits(whole, 80, pair), (6, 5));
+        assert_eq!(finished_limits(whole, 0, pair), (6, 0));
         // 3/4 of 80 / 100 of 25/3 is 5; rounded between, it would be 4.
         let pair = (Fraction::new(25, 3), Fraction::new(25, 3));
-        assert_eq!(finished_limits(COLUMN_B, true, 80, pair), (6, 5));
+        assert_eq!(finished_limits(three_quarters, 80, pair), (6, 5));
+        // 1/2 of 80 / 100 of 25/2 is 5; rounded between, it would be 4.
+        let pair = (Fraction::new(25, 2), Fraction::new(25, 2));
+        assert_eq!(finished_limits(half, 80, pair), (6, 5));
+    }
+
+    #[test]
+    fn parts_of_strengthened_members() {
+        for annex_e in [false, true] {
+            let part = |class| strengthened_part(class, annex_e);
+            assert_eq!(part(COLUMN_A), Fraction::new(3, 4));
+            assert_eq!(part(COLUMN_B), Fraction::new(3, 4));
+            assert_eq!(part(COLUMN_C), Fraction::whole(1));
+            assert_eq!(part(WALL_A), Fraction::whole(1));
+        }
+        assert_eq!(strengthened_part(WALL_B, false), Fraction::new(1, 2));
+        assert_eq!(strengthened_part(WALL_B, true), Fraction::whole(1));
     }
 }

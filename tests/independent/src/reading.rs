@@ -1,7 +1,8 @@
 //! Reading a survey file, line by line and field by field.
 
 use crate::lines::{
-    b_line, cases_of, d_line, m_line, s_line, Line, CASES, CASE_FORM, COLUMNS, MEMBER, OLD_FORM,
+    b_line, cases_of, d_line, m_line, s_line, Line, BEFORE_CASE, CASES, CASE_FORM, COLUMNS,
+    LOAD_CASE, OLD_FORM,
 };
 use crate::records::{
     member_number_repeated, not_low_rise, short_above_long, storey_number_repeated, Header,
@@ -97,8 +98,15 @@ fn read_member(
     if earlier.len() >= rows {
         return Err(Refusal::at(8, line));
     }
-    let values = values(text, line, &m_line(form))?;
-    let mut member = Member::from_values(&values, [LoadCase::default(); CASES]);
+    let mut once = values(text, line, &m_line(form))?;
+    let mut cases = [LoadCase::default(); CASES];
+    if form != CASE_FORM {
+        let within: Vec<i128> = once
+            .drain(BEFORE_CASE..BEFORE_CASE + LOAD_CASE.len())
+            .collect();
+        cases[0] = LoadCase::from_values(&within);
+    }
+    let mut member = Member::from_values(&once, cases);
     if short_above_long(&member) {
         return Err(Refusal::at(4, line));
     }
@@ -109,8 +117,6 @@ fn read_member(
         for i in 0..cases_of(form) {
             member.cases[i] = read_case(file, i + 1)?;
         }
-    } else {
-        member.cases[0] = LoadCase::from_values(&values[MEMBER.len()..]);
     }
     Ok(member)
 }

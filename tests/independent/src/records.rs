@@ -92,6 +92,8 @@ pub struct Member {
     pub damage_kind: u64,
     /// 18 N_D, 0.1 kN, compression positive
     pub n_d: i64,
+    /// The last of the M line: detailed to annex E
+    pub annex_e: u64,
     /// The cases in order. In the old form all but the first hold 0.
     pub cases: [LoadCase; 4],
 }
@@ -191,6 +193,7 @@ impl Member {
             self.factor as i128,
             self.damage_kind as i128,
             self.n_d as i128,
+            self.annex_e as i128,
         ]
     }
 
@@ -214,6 +217,7 @@ impl Member {
             factor: values[15] as u64,
             damage_kind: values[16] as u64,
             n_d: values[17] as i64,
+            annex_e: values[18] as u64,
             cases,
         }
     }

@@ -1,6 +1,8 @@
 //! Writing a survey file from its records.
 
-use crate::lines::{b_line, cases_of, d_line, m_line, s_line, Line, CASE_FORM, COLUMNS};
+use crate::lines::{
+    b_line, cases_of, d_line, m_line, s_line, Line, BEFORE_CASE, CASE_FORM, COLUMNS,
+};
 use crate::reading::LF;
 use crate::records::{by_storey, check_survey, Header, Member, Refusal, Storey};
 
@@ -37,7 +39,8 @@ fn survey_file(h: &Header, storeys: &[Storey], members: &[Member]) -> Vec<u8> {
 fn write_member(file: &mut Vec<u8>, form: u64, m: &Member) {
     let once = m.values();
     if form != CASE_FORM {
-        let values = [&once[..], &m.cases[0].values()].concat();
+        let (before, after) = once.split_at(BEFORE_CASE);
+        let values = [before, &m.cases[0].values(), after].concat();
         return write_line(file, &m_line(form), &values);
     }
     write_line(file, &m_line(form), &once);

@@ -11,7 +11,7 @@ use independent::{determine, read, report, write_survey, Header, Member, Refusal
 
 const B_BYTES: usize = 50;
 const S_BYTES: usize = 50;
-const M_BYTES: usize = 146;
+const M_BYTES: usize = 154;
 const D_BYTES: usize = 74;
 const MEMBER_BYTES: usize = M_BYTES + 4 * D_BYTES;
 
@@ -266,6 +266,7 @@ fn three() {
         (15, vec![2]),
         (16, vec![101]),
         (17, vec![5]),
+        (19, vec![2]),
     ];
     for (field, values) in bad_m {
         for value in values {
@@ -503,7 +504,7 @@ fn the_program_refuses() {
     assert_eq!(determine(&file), e_line(8, 0));
 }
 
-/// 148 members in one storey are the most that the program can be given.
+/// 145 members in one storey are the most that the program can be given.
 #[test]
 fn the_longest_input() {
     let of = |count| {
@@ -511,13 +512,13 @@ fn the_longest_input() {
         let file = write_survey(&survey.header, &survey.storeys, &survey.members, usize::MAX);
         (survey, file.unwrap())
     };
-    let (survey, file) = of(148);
-    assert_eq!(file.len(), B_BYTES + S_BYTES + 148 * MEMBER_BYTES);
-    assert_eq!(file.len(), 65_516);
+    let (survey, file) = of(145);
+    assert_eq!(file.len(), B_BYTES + S_BYTES + 145 * MEMBER_BYTES);
+    assert_eq!(file.len(), 65_350);
     let sheet = report(&survey.header, &survey.storeys, &survey.members, usize::MAX).unwrap();
     assert_eq!(determine(&file), sheet);
-    assert_eq!(sheet.len(), 4 * (148 * 98 + 86) + 26);
-    let (_, file) = of(149);
+    assert_eq!(sheet.len(), 4 * (145 * 98 + 86) + 26);
+    let (_, file) = of(146);
     assert_eq!(determine(&file), e_line(8, 0));
 }
 
@@ -542,13 +543,13 @@ fn the_example_is_written() {
         "B     100    9000       3       0       0       1\n",
         "S       1    1000     500    2000     400       2\n",
         "M       1     300     300   90000     100     110    2200     270    3000     200",
-        "     250     100       0       0       0     100       0    3150\n",
+        "     250     100       0       0       0     100       0    3150       0\n",
         "D       1    3150     600     200      60     100     200    9000       0\n",
         "D       2       0     600     200      60     100     200   18636       7\n",
         "D       3    7650     200     200     111     100     350    2501       0\n",
         "D       4     -10       0     200      60     100      71   18637       0\n",
         "M       2     300     300   90000     100     110    2200     270    3000     200",
-        "     250     100       0       0       0     100       0    3600\n",
+        "     250     100       0       0       0     100       0    3600       0\n",
         "D       1    3150     400     200      60     100     700    9000       0\n",
         "D       2    5400     345     200      60     100     300    6363       0\n",
         "D       3    3150       0       1       0       1      50       0 9999999\n",
@@ -589,7 +590,7 @@ fn the_longest_numbers() {
         "S 9999999 9999999 9999999 9999999 9999999       2"
     );
     assert!(lines[7].starts_with("M 9999999     300"));
-    assert!(lines[7].ends_with("       0 -999999"));
+    assert!(lines[7].ends_with("       0 -999999       0"));
     assert_eq!(
         lines[11],
         "D       4 -999999 9999999 9999999 9999999 9999999 9999999 9999999 9999999"
@@ -602,10 +603,10 @@ fn the_largest_file() {
     let survey = block(10, 200);
     let file = comes_back(&survey);
     assert_eq!(file.len(), B_BYTES + 10 * S_BYTES + 2_000 * MEMBER_BYTES);
-    assert_eq!(file.len(), 884_550);
+    assert_eq!(file.len(), 900_550);
     let of = |room| write_survey(&survey.header, &survey.storeys, &survey.members, room);
-    assert_eq!(refused(of(884_549)), (11, 0));
-    assert_eq!(of(884_550).unwrap(), file);
+    assert_eq!(refused(of(900_549)), (11, 0));
+    assert_eq!(of(900_550).unwrap(), file);
     let sheet = report(&survey.header, &survey.storeys, &survey.members, usize::MAX).unwrap();
     assert_eq!(sheet.len(), 10 * 4 * (200 * 98 + 86) + 26);
 }

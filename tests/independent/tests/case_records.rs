@@ -269,7 +269,7 @@ fn extreme_records_never_panic() {
             let none = LoadCase::default();
             for cases in [[load; 4], [base.cases[0], load, none, none]] {
                 let m = Member { cases, ..base };
-                let wild = Member::from_values(&[value as i128; 18], cases);
+                let wild = Member::from_values(&[value as i128; 19], cases);
                 let wild = Member { n_d: force, ..wild };
                 let s = Storey {
                     number: value,

@@ -140,6 +140,7 @@ fn three_when_reading() {
         (17, vec![5]),
         (21, vec![0]),
         (23, vec![0]),
+        (27, vec![2]),
     ];
     for (field, values) in bad_m {
         for value in values {
@@ -185,6 +186,7 @@ fn ends_of_ranges_are_read() {
         (24, 0, 9_999_999),
         (25, 0, 9_999_999),
         (26, 0, 9_999_999),
+        (27, 0, 1),
     ];
     let second = M2.replacen('2', "77", 1);
     for (field, least, most) in good_m {
@@ -549,6 +551,7 @@ fn extreme_records_never_panic() {
                 v: value,
                 rotation: value,
                 drift: value,
+                annex_e: value,
             };
             let s = Storey {
                 number: value,

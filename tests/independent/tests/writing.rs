@@ -12,7 +12,7 @@ use independent::determine;
 
 const B_BYTES: usize = 50;
 const S_BYTES: usize = 26;
-const M_BYTES: usize = 210;
+const M_BYTES: usize = 218;
 
 /// Least and most that is accepted in each field, without the counts of the
 /// header and of a storey.
@@ -51,6 +51,7 @@ const MEMBER_ENDS: [(i128, i128); MEMBER_FIELDS] = [
     (0, 9_999_999),
     (0, 9_999_999),
     (0, 9_999_999),
+    (0, 1),
 ];
 
 fn pair() -> [Member; 2] {
@@ -101,10 +102,10 @@ fn worked_example() {
         "S       1    1000       2\n",
         "M       1     300     300   90000     100     110    2200     270    3000     200",
         "     250     100       0       0       0     100       0    3150    3150     600",
-        "     200      60     100     200    9000       0\n",
+        "     200      60     100     200    9000       0       0\n",
         "M       2     300     300   90000     100     110    2200     270    3000     200",
         "     250     100       0       0       0     100       0    3600    3150     400",
-        "     200      60     100     700    9000       0\n",
+        "     200      60     100     700    9000       0       0\n",
     ]
     .concat();
     let file = write_survey(&header(), &[storey()], &pair(), usize::MAX).unwrap();
@@ -161,7 +162,7 @@ fn the_longest_numbers() {
         "S 9999999 9999999       1\n",
         "M 9999999   99999   99999 9999999    9999    9999   99999   99999   99999    9999",
         "   99999   99999       1       1       1     100       4 9999999 -999999 9999999",
-        " 9999999 9999999 9999999 9999999 9999999 9999999\n",
+        " 9999999 9999999 9999999 9999999 9999999 9999999       1\n",
     ]
     .concat();
     assert_eq!(comes_back(&survey), text.as_bytes());
@@ -266,10 +267,10 @@ fn the_largest_file() {
     let survey = block(10, 200);
     let file = comes_back(&survey);
     assert_eq!(file.len(), B_BYTES + 10 * S_BYTES + 2_000 * M_BYTES);
-    assert_eq!(file.len(), 420_310);
+    assert_eq!(file.len(), 436_310);
     let of = |room| write_survey(&survey.header, &survey.storeys, &survey.members, room);
-    assert_eq!(refused(of(420_309)), (11, 0));
-    assert_eq!(of(420_310).unwrap(), file);
+    assert_eq!(refused(of(436_309)), (11, 0));
+    assert_eq!(of(436_310).unwrap(), file);
 }
 
 // ---- refusals ----

@@ -1,6 +1,6 @@
 //! Surveys in four load cases: 1 and 2 are the two senses along the building, 3 and 4 those across it.
 use super::building;
-use super::old_form::{column, column_beside_walls, wall};
+use super::old_form::{added_wall, column, column_beside_walls, wall};
 use independent::lines::CASE_FORM;
 use independent::{Header, LoadCase, Member, Storey, Survey};
 
@@ -26,6 +26,26 @@ pub fn walls_one_direction() -> Survey {
     let mut survey = building(header, &[floor]);
     survey.storeys[0].shears = [27_000, 26_500, 17_200, 17_000];
     survey
+}
+
+/// Two added walls, not detailed to annex E, between four columns: along the walls the shear demand is above the capacity, across it is below.
+pub fn strengthened_wall() -> Survey {
+    let of_wall = [
+        LoadCase { n_k: 6_900, m_e: 47_000, m_p: 18_000, v_e: 8_700, v_r: 9_500, v: 7_600, rotation: 8_300, drift: 8_100 },
+        LoadCase { n_k: 6_500, m_e: 46_500, m_p: 17_900, v_e: 8_600, v_r: 9_500, v: 7_500, rotation: 8_200, drift: 8_000 },
+        LoadCase { n_k: 6_800, m_e: 7_200, m_p: 2_600, v_e: 1_500, v_r: 2_400, v: 1_900, rotation: 9_300, drift: 9_600 },
+        LoadCase { n_k: 6_600, m_e: 7_100, m_p: 2_580, v_e: 1_480, v_r: 2_400, v: 1_850, rotation: 9_200, drift: 9_500 },
+    ];
+    let of_column = [
+        LoadCase { n_k: 5_600, m_e: 2_500, m_p: 1_800, v_e: 1_000, v_r: 1_700, v: 1_400, rotation: 7_800, drift: 8_100 },
+        LoadCase { n_k: 5_250, m_e: 2_450, m_p: 1_780, v_e: 990, v_r: 1_700, v: 1_380, rotation: 7_700, drift: 8_000 },
+        LoadCase { n_k: 5_700, m_e: 1_900, m_p: 1_100, v_e: 800, v_r: 1_200, v: 3_000, rotation: 9_000, drift: 9_600 },
+        LoadCase { n_k: 5_450, m_e: 1_880, m_p: 1_090, v_e: 790, v_r: 1_200, v: 2_950, rotation: 8_900, drift: 9_500 },
+    ];
+    let wall = Member { n_d: 6_200, cases: of_wall, ..added_wall() };
+    let column = Member { n_d: 5_200, cases: of_column, ..column_beside_walls() };
+    let header = Header { knowledge: 90, height: 6_000, storeys_above_ground: 2, tilt_1: 300, tilt_2: 200, form: CASE_FORM, ..Header::default() };
+    building(header, &[vec![wall, column, column, wall, column, column]])
 }
 
 // ---- blocks: each column by its case 1, from which cases 2 to 4 follow; across, moments and shears are parts of those along ----
@@ -128,11 +148,11 @@ fn counting_down(given: Member) -> Member {
     }
 }
 
-/// Each mark is set in a column of its own.
+/// Each of three marks is set in a column of its own, the fourth in the two that are not strengthened.
 pub fn every_field_apart() -> Survey {
     let given = [
-        Member { number: 1_000, hooks: 1, factor: 91, damage_kind: 2, n_d: 83, ..Member::default() },
-        Member { number: 2_000, boundary_zone: 1, factor: 92, damage_kind: 3, n_d: -217, ..Member::default() },
+        Member { number: 1_000, hooks: 1, factor: 91, damage_kind: 2, n_d: 83, annex_e: 1, ..Member::default() },
+        Member { number: 2_000, boundary_zone: 1, factor: 92, damage_kind: 3, n_d: -217, annex_e: 1, ..Member::default() },
         Member { number: 3_000, strengthened: 1, factor: 93, damage_kind: 4, n_d: 283, ..Member::default() },
     ];
     Survey {

@@ -152,6 +152,23 @@ pub fn wall_a() -> Survey {
     one_storey(100, 4, vec![Member { boundary_zone: 1, ..wall }, wall])
 }
 
+/// A wall of 2000 × 250 mm with boundary zone, added in better concrete than that of the building.
+pub fn added_wall() -> Member {
+    Member { f_cm: 250, f_ctm: 175, boundary_zone: 1, strengthened: 1, ..wall() }
+}
+
+/// Two added walls lower than twice their length between four columns.
+pub fn strengthened_wall(annex_e: u64) -> Survey {
+    let low = Member { h_w: 3_500, annex_e, ..added_wall() };
+    let wall = loaded(low, 6_200, LoadCase { n_k: 6_900, m_e: 55_000, m_p: 18_000, v_e: 8_000, v_r: 9_500, v: 7_600, rotation: 7_900, drift: 8_100 });
+    let column = loaded(
+        column_beside_walls(),
+        5_200,
+        LoadCase { n_k: 5_600, m_e: 2_500, m_p: 1_800, v_e: 1_000, v_r: 1_700, v: 1_400, rotation: 7_800, drift: 8_100 },
+    );
+    one_storey(90, 2, vec![wall, column, column, wall, column, column])
+}
+
 /// One with more shear demand than capacity, one lower than twice its length.
 pub fn wall_b() -> Survey {
     let wall = Member { h_w: 6_000, ..wall() };

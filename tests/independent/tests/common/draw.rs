@@ -83,6 +83,7 @@ impl Draw {
             factor: 100 - self.step(50),
             damage_kind: self.yes(20) * self.within(1, 4),
             n_d: self.axial(f_cm * a_c),
+            annex_e: self.yes(2),
             cases,
             ..member().record()
         }

@@ -39,9 +39,9 @@ pub fn with_number(text: &str, field: usize, value: i64) -> String {
 pub const B: &str = "100 9000 3 0 0 1";
 pub const S: &str = "1 1000 2";
 pub const M1: &str = "1 300 300 90000 100 110 2200 270 3000 200 250 100 0 0 0 100 0 \
-                      3150 3150 600 200 60 100 200 9000 0";
+                      3150 3150 600 200 60 100 200 9000 0 0";
 pub const M2: &str = "2 300 300 90000 100 110 2200 270 3000 200 250 100 0 0 0 100 0 \
-                      3600 3150 400 200 60 100 700 9000 0";
+                      3600 3150 400 200 60 100 700 9000 0 0";
 
 pub fn example_lines() -> Vec<String> {
     vec![line('B', B), line('S', S), line('M', M1), line('M', M2)]
@@ -106,6 +106,7 @@ pub fn member() -> Member {
         v: 200,
         rotation: 9_000,
         drift: 0,
+        annex_e: 0,
     }
 }
 

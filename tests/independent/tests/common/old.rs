@@ -5,7 +5,7 @@ use independent::{BuildingFinding, LoadCase, MemberFinding, Refusal};
 
 pub const HEADER_FIELDS: usize = 6;
 pub const STOREY_FIELDS: usize = 3;
-pub const MEMBER_FIELDS: usize = 26;
+pub const MEMBER_FIELDS: usize = 27;
 
 #[derive(Clone, Copy, Debug, Default, PartialEq, Eq)]
 pub struct Header {
@@ -52,6 +52,7 @@ pub struct Member {
     pub v: u64,
     pub rotation: u64,
     pub drift: u64,
+    pub annex_e: u64,
 }
 
 #[derive(Clone, Debug, Default, PartialEq, Eq)]
@@ -165,19 +166,22 @@ impl Member {
             factor: self.factor,
             damage_kind: self.damage_kind,
             n_d: self.n_d,
+            annex_e: self.annex_e,
             cases,
         }
     }
 
     pub fn fields(&self) -> [i128; MEMBER_FIELDS] {
         let m = self.record();
-        let values = [&m.values()[..], &m.cases[0].values()].concat();
+        let (before, after) = (&m.values()[..18], [self.annex_e as i128]);
+        let values = [before, &m.cases[0].values(), &after].concat();
         values.try_into().unwrap()
     }
 
     pub fn from_fields(f: &[i128; MEMBER_FIELDS]) -> Member {
-        let cases = [LoadCase::from_values(&f[18..]), ZERO, ZERO, ZERO];
-        flat(&independent::Member::from_values(&f[..18], cases), 0)
+        let cases = [LoadCase::from_values(&f[18..26]), ZERO, ZERO, ZERO];
+        let once = [&f[..18], &f[26..]].concat();
+        flat(&independent::Member::from_values(&once, cases), 0)
     }
 }
 
@@ -222,6 +226,7 @@ pub fn flat(m: &independent::Member, i: usize) -> Member {
         v: load.v,
         rotation: load.rotation,
         drift: load.drift,
+        annex_e: m.annex_e,
     }
 }
 

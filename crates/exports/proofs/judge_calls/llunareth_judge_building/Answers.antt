@@ -1,11 +1,10 @@
-use Rattle.std.proofs.Common.{arith, ap, subst, length, ◌<◌, ◌∙◌}
-use Rattle.records.specs.Records.{Survey, survey_of}
+use Rattle.std.proofs.Common.{ap, subst, ◌∙◌}
+use Rattle.records.specs.Records.{Survey}
 use Rattle.records.specs.Refusals.{numbered}
 use Rattle.members.specs.Finding.{Returned}
 use Rattle.storeys.specs.Storey.{published_rules}
 use Rattle.storeys.specs.Building.{Answers as Answered}
 use Rattle.columns.specs.Line.{at_front}
-use Rattle.handed.specs.Handed.{header_handed}
 use Rattle.answers.specs.Packing.{packed}
 use Rattle.answers.proofs.Told.{building_told}
 use Rattle.exports.specs.Calls.{room}

@@ -21,7 +21,7 @@ returns-in-Old c =
     let at = start_of (form_number s.form) c.args.place in
     let f = c.in-Old.is in
     let v = rw (c.line_start.ensures, c.member_kind.ensures) at c.sound_fields-vs.ensures in
-    member-held s.bytes.now at c.sound_fields-vs.result (form_number s.form) _ _ v (old-cases-held s.bytes.now at c.sound_fields-vs.result (form_number s.form) (rw f) v) c.of.ensures
+    member-held s.bytes.now at c.sound_fields-vs.result (form_number s.form) c.of.result _ v (old-cases-held s.bytes.now at c.sound_fields-vs.result (form_number s.form) (rw f) v) (rw f c.of.ensures)
 
 pub returns-in-FourCases : goal.returns-in-FourCases
 returns-in-FourCases c =
@@ -29,7 +29,7 @@ returns-in-FourCases c =
     let at = start_of (form_number s.form) c.args.place in
     let f = c.in-FourCases.is in
     let v = rw (c.line_start.ensures, c.member_kind.ensures) at c.sound_fields-vs.ensures in
-    member-held s.bytes.now at c.sound_fields-vs.result (form_number s.form) _ _ v
+    member-held s.bytes.now at c.sound_fields-vs.result (form_number s.form) c.with_cases.result c.from_fn-cases.result v
     (four-cases (form_number s.form) s.bytes.now at c.from_fn-cases.result (rw f)
     (made_list _ _ (λ k. case_at s.bytes.now (case_start at k)) c.from_fn-cases.result 4 c.from_fn-cases.ensures.items (λ x y q w. search (rules, tests))))
-    c.with_cases.ensures
+    (rw f c.with_cases.ensures)
