@@ -45,12 +45,13 @@ row_under_zone p t x i =
 abbrev pub table_under_zone : Places → Table → ℕ → Bool
 table_under_zone p t x = row_under_zone p t x 0 && row_under_zone p t x 1
 
--- class B is nowhere above class A with boundary zone up to the axial ratio x: of m and of the rotation
+-- of a set in order: class B is nowhere above class A with boundary zone up to the axial ratio x, which stands past the first axial row of walls and not past the second;
+-- of m and of the rotation
 unfoldable pub b_under_zone : LimitSet → ℕ → Bool
 b_under_zone s x =
     (ltb (slice_index s.places.walls 0) x && leb x (slice_index s.places.walls 1)) && (table_under_zone s.places s.m x && table_under_zone s.places s.rotation x)
 
--- the published set passes that test at 0.2 and at no step more; and at one step more the claim is false
+-- the published set passes that test at 0.2 and not at one step more; and at one step more the claim is false
 pub record Tight : Type 0 where
   pub at-bound : b_under_zone published axial_most ≡ true
   pub past-bound : b_under_zone published (axial_most + 1) ≡ false
