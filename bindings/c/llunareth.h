@@ -31,7 +31,7 @@ extern "C" {
  * The form of the calls as this header has it. A program holds it against llunareth_version() once, before any other call: each change of a
  * call, and each call that is added, raises it.
  */
-#define LLUNARETH_VERSION 7
+#define LLUNARETH_VERSION 8
 
 /* The forms of a survey. */
 enum {
@@ -219,8 +219,9 @@ enum {
 enum {
     LLUNARETH_BUILDING_TILTED = 0, /* 1 where the larger tilt is above 25,000, else 0 */
     LLUNARETH_BUILDING_RISKY = 1,  /* 0 or 1 */
-    LLUNARETH_BUILDING_PLACE = 2,  /* a Risky storey's place, counted from 1; 0 where none is Risky */
-    LLUNARETH_BUILDING_VALUES = 3  /* how many values there are */
+    LLUNARETH_BUILDING_PLACE = 2,  /* the first Risky storey's place, counted from 1; 0 where none is Risky */
+    LLUNARETH_BUILDING_CASE = 3,   /* that storey's lowest numbered Risky case, 1 in the old form; 0 where none is Risky */
+    LLUNARETH_BUILDING_VALUES = 4  /* how many values there are */
 };
 
 /* Places of the values of llunareth_report. */

@@ -2,10 +2,11 @@
  * verdict [FILE]: prints the verdict on a survey file, or on standard input, in one line:
  *
  *   not Risky
- *   Risky: storey NUMBER
- *   Risky: tilt             no storey is Risky
+ *   Risky: storey NUMBER            the first Risky one
+ *   Risky: storey NUMBER, case N    in four load cases, with the lowest in which it is Risky
+ *   Risky: tilt                     no storey is Risky
  *   refused: N at line L
- *   refused: N              no line is named
+ *   refused: N                      no line is named
  *
  * A file is refused where `determine` refuses it. Exit status: 0 for a verdict, 1 for a refusal, 2 where the file cannot be read, the
  * line cannot be written, or the library has another form of the calls than the header.
@@ -37,14 +38,24 @@ static int print_refusal(uint64_t number, uint64_t line)
     return REFUSED;
 }
 
-static int print_verdict(uint64_t risky, uint64_t place)
+/* The storey that the verdict names, and in four load cases the case. */
+static void print_storey(uint64_t form, uint64_t place, uint64_t load_case)
 {
-    if (risky == 0) {
+    printf("Risky: storey %" PRIu64, storeys[place - 1].number);
+    if (form == LLUNARETH_FOUR_CASES) {
+        printf(", case %" PRIu64, load_case);
+    }
+    putchar('\n');
+}
+
+static int print_verdict(uint64_t form, const uint64_t *found)
+{
+    if (found[LLUNARETH_BUILDING_RISKY] == 0) {
         puts("not Risky");
-    } else if (place == 0) {
+    } else if (found[LLUNARETH_BUILDING_PLACE] == 0) {
         puts("Risky: tilt");
     } else {
-        printf("Risky: storey %" PRIu64 "\n", storeys[place - 1].number);
+        print_storey(form, found[LLUNARETH_BUILDING_PLACE], found[LLUNARETH_BUILDING_CASE]);
     }
     return JUDGED;
 }
@@ -59,7 +70,7 @@ static int judge(const uint64_t *read)
     if (returned != 0) {
         return print_refusal(LLUNARETH_REFUSAL(returned), LLUNARETH_LINE(returned));
     }
-    return print_verdict(found[LLUNARETH_BUILDING_RISKY], found[LLUNARETH_BUILDING_PLACE]);
+    return print_verdict(read[LLUNARETH_READ_FORM], found);
 }
 
 /* Reads and judges the first bytes of `file`. */

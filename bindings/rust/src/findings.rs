@@ -108,6 +108,8 @@ pub struct BuildingFinding {
     /// The larger tilt is above 25,000 microradians.
     pub tilted: bool,
     pub risky: bool,
-    /// A Risky storey's place, counted from 1; 0 where none is Risky.
+    /// The first Risky storey's place, counted from 1; 0 where none is Risky.
     pub place: u64,
+    /// That storey's lowest numbered Risky case, 1 in the old form; 0 where none is Risky.
+    pub case: u64,
 }

@@ -177,13 +177,13 @@ pub fn judge_storey(k: u64, form: u64, storey: &Storey, members: &[Member]) -> R
 /// # let (mut storeys, mut members) = ([llunareth::Storey::default(); 10], [llunareth::Member::default(); 320]);
 /// let survey = llunareth::read(&file, &mut storeys, &mut members)?;
 /// let found = llunareth::judge_building(&survey.header, survey.storeys, survey.members)?;
-/// assert_eq!((found.tilted, found.risky, found.place), (false, true, 1));
+/// assert_eq!((found.tilted, found.risky, found.place, found.case), (false, true, 1, 1));
 /// # Ok::<(), Box<dyn std::error::Error>>(())
 /// ```
 pub fn judge_building(header: &Header, storeys: &[Storey], members: &[Member]) -> Result<BuildingFinding, Refusal> {
-    let [tilted, risky, place] =
+    let [tilted, risky, place, case] =
         values::<{ raw::BUILDING_VALUES }>(|out| raw::judge_building(&<[u64; HEADER_NUMBERS]>::from(*header), storeys, members, out))?;
-    Ok(BuildingFinding { tilted: tilted == 1, risky: risky == 1, place })
+    Ok(BuildingFinding { tilted: tilted == 1, risky: risky == 1, place, case })
 }
 
 /// Writes the sheet of a building, given as for its judgment, to the front of the bytes; those after it are left alone. It has 86 bytes for

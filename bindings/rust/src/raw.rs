@@ -10,7 +10,7 @@ use crate::{Member, Motion, Storey};
 use std::sync::OnceLock;
 
 /// The form of the calls that this package knows.
-pub const VERSION: u64 = 7;
+pub const VERSION: u64 = 8;
 
 /// Returned where `out` is too short for a call's values; no refusal has this number.
 pub const SHORT: u64 = 255;
@@ -34,7 +34,7 @@ pub const STOREY_CASE_VALUES: usize = 11;
 pub const STOREY_VALUES: usize = 45;
 
 /// How many values [`judge_building`] puts out.
-pub const BUILDING_VALUES: usize = 3;
+pub const BUILDING_VALUES: usize = 4;
 
 /// How many values [`report`] puts out.
 pub const REPORT_VALUES: usize = 1;
@@ -216,7 +216,7 @@ pub fn judge_storey(k: u64, form: u64, storey: &[u64], members: &[Member], out: 
     }
 }
 
-/// Judges a building. Values: tilt above 25,000, Risky, a Risky storey's place or 0.
+/// Judges a building. Values: tilt above 25,000, Risky, the first Risky storey's place and its lowest numbered Risky case, or 0 and 0.
 pub fn judge_building(header: &[u64], storeys: &[Storey], members: &[Member], out: &mut [u64]) -> u64 {
     expect_version();
     unsafe {
@@ -300,8 +300,8 @@ mod tests {
     }
 
     #[test]
-    #[should_panic(expected = "the linked library has version 8 of the calls, this package version 7")]
+    #[should_panic(expected = "the linked library has version 9 of the calls, this package version 8")]
     fn another_version() {
-        expect(8);
+        expect(9);
     }
 }

@@ -4,7 +4,7 @@ use Rattle.records.specs.declared.by_case.{FourCases.FourCases, ByForm.ByForm, B
 use Rattle.members.specs.Finding.{Returned, found, refused, flag, finding_values}
 use Rattle.members.specs.declared.finding.Finding.{Finding}
 use Rattle.storeys.specs.Storey.{findings_values}
-use Rattle.storeys.specs.Building.{place_of}
+use Rattle.storeys.specs.Place.{place_of, case_number_of}
 use Rattle.storeys.specs.declared.{StoreyJudgment.StoreyJudgment, BuildingFinding.BuildingFinding}
 use Rattle.hazard.specs.declared.site.Site.{Site}
 
@@ -30,9 +30,9 @@ member_values = by_form finding_values
 abbrev pub judgment_values : StoreyJudgment → List ℕ
 judgment_values j = flag j.risky ∷ findings_values j.findings
 
--- of a building: tilted, Risky, and the place of a Risky storey, 0 where none is
+-- of a building: tilted, Risky, the place of the first Risky storey and its lowest numbered Risky case, 0 where none is
 abbrev pub building_values : BuildingFinding → List ℕ
-building_values f = flag f.tilted ∷ flag f.risky ∷ place_of f.place ∷ []
+building_values f = flag f.tilted ∷ flag f.risky ∷ place_of f.first ∷ case_number_of f.first ∷ []
 
 -- of a site: F_S, F_1, S_DS, S_D1
 abbrev pub site_values : Site → List ℕ

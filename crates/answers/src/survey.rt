@@ -101,13 +101,17 @@ impl Values for StoreyJudgment {
     }
 }
 
-// Tilted, Risky, and a Risky storey's place, counted from 1; 0 where none is.
+// Tilted, Risky, the first Risky storey's place, counted from 1, and its lowest numbered Risky case; 0 where none is.
 impl Values for BuildingFinding {
     ghost values = { building_values };
 
     fn put(&self, out: &mut [u64]) {
-        let place = self.place.unwrap_or(0);
-        put_words(out, &[u64::from(self.tilted), u64::from(self.risky), place]);
+        let (place, case) = match self.first {
+            Some(storey) => (storey.place, storey.case),
+            None => (0, 0),
+        };
+        let (tilted, risky) = (u64::from(self.tilted), u64::from(self.risky));
+        put_words(out, &[tilted, risky, place, case]);
     }
 }
 

@@ -19,15 +19,14 @@ use Rattle.records.specs.declared.Member.{Member}
 use Rattle.records.proofs.Validity.{count-least, known-form as form-known}
 use Rattle.records.specs.declared.by_case.ByForm.TheVariants.{One, Four}
 use Rattle.records.specs.Blank.{no_member}
-use Rattle.members.specs.Finding.{knowledge, finding_by, answer_by, Returned}
+use Rattle.members.specs.Finding.{flag, found, refused, knowledge, finding_by, answer_by, Returned}
 use Rattle.members.specs.declared.finding.Finding.{Finding}
 use Rattle.totals.specs.declared.StoreyFinding.{StoreyFinding}
 use Rattle.checks.specs.Rows.{count_fault, member_in, row_fault, member_rows_fault, storey_in, members_of, records_fault}
 use Rattle.checks.proofs.Refusals.{None, end, also, one, rest, in-order-clear, in-order-none, first-clear}
 use Rattle.checks.proofs.RowLaws.{members-counted, total-counted, header-good, rows}
-use Rattle.storeys.specs.declared.BuildingFinding.{BuildingFinding}
 use Rattle.storeys.specs.Storey.{Rules, over, case_risky, storey_risky, storey_finding, finding_in, level_fault, storey_call_fault, judged_by, storey_answer_by}
-use Rattle.storeys.specs.Building.{building_risky, building_answer_by, place_in, returned_building}
+use Rattle.storeys.specs.Building.{building_risky, building_returned, returned_building}
 use Rattle.storeys.proofs.Accepted.{known_level}
 use Rattle.comparison.specs.Demand3.{BuildingAnswer, Survey, StoreyMembers, storey_members_at, storeys_members, Accepted, in_case_of, over_in, risky_in, case_risky_in, storey_met, storey_mets, building_risky_in}
 use Rattle.comparison.proofs.Pairs.{all_listed}
@@ -53,10 +52,6 @@ module _ (h : Header) (ss : List Storey) (ms : List Member) (none : records_faul
         storey = one (rows h ss ms none i l);
         members = one (rest (rest (rows h ss ms none i l)));
       }
-
-  verdict-at : (rules : Rules) (place : ℕ) → building_risky_in (building_answer_by rules (survey_of h ss ms) place) ≡ building_risky rules (survey_of h ss ms)
-  unfolding building_answer_by
-  verdict-at rules place = rw (eq-eqb _ _ none)
 
 -- what stands in a case of the form
 case-found-in : {A : Type 0} (g : ℕ → A) (form c : ℕ) → c < case_count form → in_case_of c (pick (in_cases form) (Four (record { case1 = g 0; case2 = g 1; case3 = g 2; case4 = g 3 })) (One (g 0))) ≡ g c
@@ -106,12 +101,16 @@ module _ (form k : ℕ) (f : StoreyMembers) (sound : Sound form k f) where
       (ap (λ (x : Finding). x.over) (case-found-in (λ c. finding_by rules.limits k (storey_met f c) (in_case c m)) form c l))
 
 -- an accepted survey
-clear-by : (t : Bool) (fault : ℕ) (f : BuildingFinding) → eqb fault 0 ≡ t → (returned_building (pick t (Ok f) (Err fault))).refusal ≡ 0 → fault ≡ 0
-clear-by t fault f e h = grind (arith, nat_tests)
+clear-by : (t : Bool) (fault : ℕ) (vs : List ℕ) → eqb fault 0 ≡ t → (pick t (found vs) (refused fault)).refusal ≡ 0 → fault ≡ 0
+clear-by t fault vs e h = grind (arith, nat_tests)
 
 -- what the call on a building returns tells whether it is Risky
 abbrev told-risky : Returned → Bool
 told-risky x = eqb (get_or x.values 1 0) 1
+
+told-flag : (t : Bool) → eqb (flag t) 1 ≡ t
+told-flag true = refl
+told-flag false = refl
 
 risky-told : (r : BuildingAnswer) → told-risky (returned_building r) ≡ building_risky_in r
 risky-told (Ok f) = grind arith
@@ -119,15 +118,17 @@ risky-told (Err n) = refl
 
 module _ (rules : Rules) (a : Survey) (r : BuildingAnswer) (acc : Accepted rules a r) where
   pub building-clear : records_fault a ≡ 0
-  unfolding building_answer_by
+  unfolding building_returned
   building-clear =
-      let e = ap (λ (x : Returned). x.refusal) acc.answers.same in
+      let e = ap (λ (x : Returned). x.refusal) acc.answers in
       clear-by (eqb (records_fault a) 0) _ _ refl (sym e ∙ acc.no-refusal)
 
+  told-verdict : told-risky (building_returned rules a) ≡ building_risky rules a
+  unfolding building_returned
+  told-verdict = rw (eq-eqb _ _ building-clear) (told-flag (building_risky rules a))
+
   pub verdict-found : building_risky_in r ≡ building_risky rules a
-  verdict-found =
-      sym (risky-told r) ∙ ap told-risky acc.answers.same ∙ risky-told (building_answer_by rules a (place_in r))
-      ∙ verdict-at a.header a.storeys a.members building-clear rules (place_in r)
+  verdict-found = sym (risky-told r) ∙ ap told-risky acc.answers ∙ told-verdict
 
   pub level-known : knowledge a.header.knowledge ≡ true
   level-known = known_level a.header a.storeys a.members building-clear

@@ -16,8 +16,8 @@ use Rattle.members.specs.Limits.{interp, blend, column_a, column_b, column_c, wa
 use Rattle.members.specs.Finding.{axial, moment, stress, hoops, m_limit_of, rotation_limit_of, m_dropped_of, is_over, finding_by, answer_by}
 use Rattle.totals.specs.Share.{allowed_share, exceeds_share}
 use Rattle.checks.specs.Rows.{row_fault, member_rows_fault, members_before, members_of, counts_fault, storey_rows_fault, records_fault}
-use Rattle.storeys.specs.Storey.{published_rules, meets_wall_share, axial_total_of, over_shear_of, some_over, damaged, risky_by_damage, case_risky, storey_risky, storey_finding, storey_call_fault, storey_answer_by}
-use Rattle.storeys.specs.Building.{risky_at, tilted, some_risky, building_risky, building_answer_by, named, named-counted}
+use Rattle.storeys.specs.Storey.{published_rules, meets_wall_share, axial_total_of, over_shear_of, some_over, damaged, risky_by_damage, case_risky, storey_risky, lowest_risky_case, storey_finding, storey_call_fault, storey_answer_by}
+use Rattle.storeys.specs.Building.{risky_at, tilted, some_risky, building_risky, first_risky, lowest_case_at, first_risky_case, building_returned}
 use Rattle.comparison.specs.Pairing.{none, pair, EveryPair}
 use Rattle.comparison.specs.Demand3.{BuildingAnswer, SameClass, Survey, storey_members_at, storey_answer, case_risky_in, Accepted, Over, Risky, CaseRisky, StoreyPairs, AtLeastAsSevereIn, AtLeastAsSevere, NowhereBetter, Carried}
 use Rattle.comparison.proofs.Demand3.{demand3}
@@ -127,7 +127,7 @@ met =
 
 -- both calls on a building name its only storey
 abbrev pub answer : BuildingAnswer
-answer = Ok (record { tilted = false; risky = true; place = Some 1; counted = named-counted 1 })
+answer = Ok (record { tilted = false; risky = true; first = Some (record { place = 1; case = 3; counted = (omega arith, omega arith) }) })
 
 -- both surveys are accepted; in the first the column is over and the storey Risky in case 3 alone
 pub record Found : Type 0 where
@@ -139,11 +139,11 @@ pub record Found : Type 0 where
   pub storey : Risky published_rules one (storey_members_at one 0)
 
 pub found : Found
-unfolding every_below any_below first header_fault storey_fault is_blank member_fault detailed column_class wall_class class_of places moments rotations interp blend column_a column_b column_c wall_rows wall_b m_limit_at rotation_limit_at axial moment stress hoops m_limit_of rotation_limit_of m_dropped_of is_over finding_by answer_by total any_of meets_wall_share axial_total_of over_shear_of some_over damaged allowed_share exceeds_share risky_by_damage case_risky storey_risky storey_finding no_member row_fault member_rows_fault storey_call_fault storey_answer_by members_before members_of risky_at counts_fault storey_rows_fault records_fault tilted some_risky building_risky building_answer_by
+unfolding every_below any_below first header_fault storey_fault is_blank member_fault detailed column_class wall_class class_of places moments rotations interp blend column_a column_b column_c wall_rows wall_b m_limit_at rotation_limit_at axial moment stress hoops m_limit_of rotation_limit_of m_dropped_of is_over finding_by answer_by total any_of meets_wall_share axial_total_of over_shear_of some_over damaged allowed_share exceeds_share risky_by_damage case_risky storey_risky storey_finding no_member row_fault member_rows_fault storey_call_fault storey_answer_by members_before members_of risky_at counts_fault storey_rows_fault records_fault tilted some_risky building_risky first_risky lowest_case_at first_risky_case building_returned lowest_risky_case
 found =
     record {
-      one-accepted = record { answers = record { same = refl; place = named 0 (omega arith) refl }; no-refusal = refl };
-      other-accepted = record { answers = record { same = refl; place = named 0 (omega arith) refl }; no-refusal = refl };
+      one-accepted = record { answers = refl; no-refusal = refl };
+      other-accepted = record { answers = refl; no-refusal = refl };
       column-over = refl;
       storey-risky = refl;
       no_other = (refl, refl, refl);

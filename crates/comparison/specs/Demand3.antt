@@ -7,7 +7,7 @@ use Rattle.records.specs.declared.by_case.{FourCases.FourCases, ByForm.ByForm, B
 use Rattle.members.specs.{declared.class.Class.TheVariants.ColumnC, declared.finding.Finding.Finding, Class.is_wall, Class.class_of, Finding.answer_by}
 use Rattle.checks.specs.Rows.{Storey, Member, storey_in, members_of}
 use Rattle.storeys.specs.declared.{StoreyJudgment.StoreyJudgment, BuildingFinding.BuildingFinding}
-use Rattle.storeys.specs.{Storey.Rules, Storey.published_rules, Storey.meets_wall_share, Storey.storey_answer_by, Building.Answers, Building.returned_building}
+use Rattle.storeys.specs.{Storey.Rules, Storey.published_rules, Storey.meets_wall_share, Storey.storey_answer_by, Building.building_returned, Building.returned_building}
 use Rattle.comparison.specs.Pairing.{Pairing, EveryPair}
 
 -- SURVEY, "a header with its storeys and members as records", which are the arguments of the call on a building: `Survey` of records/specs/Records
@@ -34,9 +34,9 @@ StoreyAnswer = Result StoreyJudgment ℕ
 abbrev pub BuildingAnswer : Type 0
 BuildingAnswer = Result BuildingFinding ℕ
 
--- ACCEPTED: "the building call returns no refusal for it"; r is that call's answer, whichever Risky storey it names
+-- ACCEPTED: "the building call returns no refusal for it"; r is that call's answer
 pub record Accepted (rules : Rules) (a : Survey) (r : BuildingAnswer) : Type 0 where
-  pub answers : Answers rules a r
+  pub answers : returned_building r ≡ building_returned rules a
   pub no-refusal : (returned_building r).refusal ≡ 0
 
 -- OVER and RISKY: "what the calls on a member, a storey and a building answer, each member judged with the k of its survey and the 0.40

@@ -3,7 +3,7 @@
 use Rattle.std.specs.Prelude.{ℕ, ◌+◌, List, [], ◌∷◌, ◌++◌, map, ◌≡◌, take}
 use Rattle.records.specs.Records.{zero_force, no_case}
 use Rattle.storeys.specs.Storey.{published_rules}
-use Rattle.storeys.specs.Building.{building_answer_by, returned_building}
+use Rattle.storeys.specs.Building.{building_returned}
 use Rattle.comparison.specs.Demand3.{Survey}
 
 -- what the surveys below differ in
@@ -165,7 +165,7 @@ needed =
 abbrev pub answer : Given → List ℕ
 answer g =
     let a : Survey = needed_survey g in
-    let r = returned_building (building_answer_by published_rules a 0) in
+    let r = building_returned published_rules a in
     r.refusal ∷ take 2 r.values
 
 -- all are accepted, and each time the first building is Risky and the second not

@@ -2,15 +2,15 @@
 use mathlib.Core.Path.{sym, ◌∙◌}
 use borrow.Author.Tests.{eq-eqb}
 use Rattle.reading.proofs.Passed.{accepted-pass}
-use Rattle.storeys.specs.Building.{building_answer_by}
+use Rattle.storeys.specs.Building.{building_returned}
 use Rattle.determination.specs.Determination.{storey_rows, member_rows, text}
 use Rattle.determination.specs.Accepted.{AcceptedJudged, AcceptedPrinted}
 use Rattle.determination.proofs.Outcomes.{not-too-long}
 use Rattle.determination.proofs.Room.{never-nine}
 
 pub accepted-judged : AcceptedJudged
-unfolding building_answer_by
-accepted-judged s srows mrows a e rules place = rw (eq-eqb _ 0 (accepted-pass s srows mrows a e))
+unfolding building_returned
+accepted-judged s srows mrows a e rules = rw (eq-eqb _ 0 (accepted-pass s srows mrows a e))
 
 pub accepted-printed : AcceptedPrinted
 unfolding text

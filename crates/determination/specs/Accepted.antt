@@ -3,7 +3,7 @@ use Rattle.std.specs.Prelude.{ℕ, ◌≤◌, List, ◌≡◌, length}
 use Rattle.records.specs.Records.{Survey}
 use Rattle.reading.specs.Survey.{accepted, survey}
 use Rattle.storeys.specs.Storey.{Rules}
-use Rattle.storeys.specs.Building.{building_answer_by, returned_building}
+use Rattle.storeys.specs.Building.{building_returned}
 use Rattle.report.specs.Sheet.{sheet}
 use Rattle.determination.specs.Determination.{input_most, storey_rows, member_rows, sheet_most, printed}
 
@@ -11,7 +11,7 @@ use Rattle.determination.specs.Determination.{input_most, storey_rows, member_ro
 abbrev pub AcceptedJudged : Type 0
 AcceptedJudged =
     (s : List ℕ) (srows mrows : ℕ) (a : Survey) → survey s srows mrows ≡ accepted a
-    → (rules : Rules) (place : ℕ) → (returned_building (building_answer_by rules a place)).refusal ≡ 0
+    → (rules : Rules) → (building_returned rules a).refusal ≡ 0
 
 -- `determine` prints the sheet of every accepted file, into every buffer that holds the longest sheet
 abbrev pub AcceptedPrinted : Type 0

@@ -8,7 +8,7 @@ use Rattle.records.specs.declared.Member.{Member}
 use Rattle.records.specs.declared.by_case.FourCases.{FourCases}
 use Rattle.members.specs.Finding.{member_returned}
 use Rattle.storeys.specs.Storey.{published_rules, storey_returned}
-use Rattle.storeys.specs.Building.{building_answer_by, returned_building}
+use Rattle.storeys.specs.Building.{building_returned}
 
 -- a member whose n is N_K and whose n_D is N_D, ρ 25 × A_sh, and with a short side of 100 v 10 × V_e
 pub record Numbers : Type 0 where
@@ -92,7 +92,7 @@ abbrev pub tilt : ℕ → ℕ → List ℕ
 tilt t1 t2 =
     let h : Header = record { knowledge = 100; height = 9_000; storeys = 3; tilt1 = t1; tilt2 = t2; count = 1; form = 1 } in
     let ms : List Member = loaded 1 0 0 0 0 ∷ [] in
-    take 2 (returned_building (building_answer_by published_rules (survey_of h (edge_storey ms ∷ []) ms) 0)).values
+    take 2 (building_returned published_rules (survey_of h (edge_storey ms ∷ []) ms)).values
 
 -- members 1 to n, the first with damage kind 4
 abbrev pub one_damaged : ℕ → List Member

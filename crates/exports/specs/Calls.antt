@@ -1,19 +1,15 @@
 -- What the calls for other languages give and leave.
-use Rattle.std.specs.Prelude.{ℕ, ◌<◌, ◌≤◌, List, [], ◌∷◌, ◌≡◌, leb, length, Bool, Result}
+use Rattle.std.specs.Prelude.{ℕ, List, [], ◌∷◌, leb, length, Bool}
 use Rattle.records.specs.Notation.{pick}
 use Rattle.members.specs.Finding.{Returned}
 use Rattle.records.specs.declared.by_case.FourCases.{FourCases}
 use Rattle.answers.specs.Packing.{packed}
 use Rattle.reading.specs.Answer.{Told, filled, refusal}
-use Rattle.records.specs.Records.{Survey}
-use Rattle.storeys.specs.declared.BuildingFinding.{BuildingFinding}
-use Rattle.storeys.specs.Storey.{published_rules}
 use Rattle.columns.specs.Line.{at_front}
-use Rattle.storeys.specs.Building.{Answers, returned_building}
 
 -- the form of the calls: a change of one raises it
 abbrev pub version : ℕ
-version = 7
+version = 8
 
 -- how many values each call puts to the front of `out`; on a member and on a storey at most: those of four cases
 abbrev pub reading_count : ℕ
@@ -26,7 +22,7 @@ abbrev pub storey_count : ℕ
 storey_count = 45
 
 abbrev pub building_count : ℕ
-building_count = 3
+building_count = 4
 
 abbrev pub report_count : ℕ
 report_count = 1
@@ -63,9 +59,3 @@ reading_returned (filled h storeys members) =
       values = h.knowledge ∷ h.height ∷ h.storeys ∷ h.tilt1 ∷ h.tilt2 ∷ h.count ∷ h.form ∷ storeys ∷ members ∷ [];
     }
 reading_returned (refusal number line) = record { refusal = number; line = line; values = [] }
-
--- what the call on a building gives and leaves in `out`, with room there by an answer that document 01 gives
-pub data BuildingGiven (a : Survey) (before : List ℕ) (result : ℕ) (after : List ℕ) : Type 0 where
-  no_room : length before < building_count → result ≡ short → after ≡ before → BuildingGiven a before result after
-  room : building_count ≤ length before → (answer : Result BuildingFinding ℕ) → Answers published_rules a answer
-      → result ≡ packed (returned_building answer) → after ≡ at_front (returned_building answer).values before → BuildingGiven a before result after

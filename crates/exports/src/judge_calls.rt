@@ -1,10 +1,11 @@
 // The calls on a member, a storey and a building.
 ghost use Rattle.std.specs.Prelude.{◌≡◌};
 ghost use Rattle.records.specs.Records.{survey_of};
-ghost use Rattle.storeys.specs.Storey.{storey_returned};
+ghost use Rattle.storeys.specs.Storey.{published_rules, storey_returned};
+ghost use Rattle.storeys.specs.Building.{building_returned};
 ghost use Rattle.members.specs.Finding.{member_returned};
 ghost use Rattle.handed.specs.Handed.{header_handed, storey_handed, member_handed};
-ghost use Rattle.exports.specs.Calls.{member_count, storey_count, met_by, given, out_after_call, BuildingGiven};
+ghost use Rattle.exports.specs.Calls.{member_count, storey_count, building_count, met_by, given, out_after_call};
 
 use crate::{SHORT, survey_given};
 use answers::put_answer;
@@ -20,7 +21,7 @@ const MEMBER_COUNT: usize = 40;
 
 const STOREY_COUNT: usize = 45;
 
-const BUILDING_COUNT: usize = 3;
+const BUILDING_COUNT: usize = 4;
 
 // A member of a form, given by its fifty-one numbers, judged with k and whether its storey meets the 0.40 condition in each case; those of cases that the form lacks are not looked at.
 #[unsafe(no_mangle)]
@@ -75,7 +76,8 @@ pub extern "C" fn llunareth_judge_building(
     members: &[Member],
     out: &mut [u64],
 ) -> u64
-    ensures { BuildingGiven (survey_of (header_handed header.now) storeys.now members.now) out.old result out.new }
+    ensures value { result ≡ given building_count (building_returned published_rules (survey_of (header_handed header.now) storeys.now members.now)) out.old }
+    ensures out_after { out.new ≡ out_after_call building_count (building_returned published_rules (survey_of (header_handed header.now) storeys.now members.now)) out.old }
 {
     if out.len() < BUILDING_COUNT {
         return SHORT;

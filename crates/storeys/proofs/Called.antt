@@ -1,9 +1,7 @@
 -- The call on a storey: its finding in a case from the totals, the cases together, and the order of its refusals.
-use Prim.Native.Nat.{ℕ, zero, suc, ◌+◌, ◌*◌, ◌≤◌, ◌<◌}
+use Prim.Native.Nat.{ℕ, suc, ◌+◌, ◌*◌, ◌≤◌, ◌<◌}
 use native.Mathlib.Omega.{arith}
-use mathlib.Core.Bool.{Bool, true, false, ◌&&◌, ◌||◌, or-false, or_assoc}
-use native.Mathlib.Numerals.{add-one}
-use Rattle.std.specs.List.{list_any, range_with_len}
+use mathlib.Core.Bool.{Bool, true, false, ◌&&◌, ◌||◌}
 use mathlib.Core.List.{List, [], ◌∷◌}
 use mathlib.Core.Path.{◌≡◌, refl, sym, ◌∙◌}
 use lib.ListN.{length}
@@ -63,18 +61,6 @@ module _ (form c : ℕ) (i : c < case_count form) (rows : List Member) (g : Rows
 
     pub found-is : (k x : ℕ) (met : Bool) (t : Tally) (f : StoreyFinding) → x ≡ shear_of c s → met ≡ walls_suffice_of c x rows → t ≡ tally_of k met c rows → f ≡ found_by x met t → f ≡ finding_in published_rules k s rows c
     found-is k x met t f p b q d = d ∙ rw (p, q) (found-by-totals k met ((rw p at b) ∙ walls-are))
-
--- ---- a test of the numbers below n, listed
-any-from : (p : ℕ → Bool) (a n : ℕ) → any_below p (a + n) ≡ (any_below p a || list_any p (range_with_len a n))
-unfolding any_below
-any-from p a zero = let e : a + 0 ≡ a = omega arith in rw e (sym (or-false (any_below p a)))
-any-from p a (suc n) =
-    let e : a + suc n ≡ (a + 1) + n = omega arith in
-    rw e (any-from p (a + 1) n ∙ rw (add-one a) (or_assoc (any_below p a) (p a) (list_any p (range_with_len (suc a) n))))
-
-pub any-listed : (p : ℕ → Bool) (n : ℕ) → list_any p (range_with_len 0 n) ≡ any_below p n
-unfolding any_below
-any-listed p n = let e : 0 + n ≡ n = omega arith in rw e at (sym (any-from p 0 n))
 
 -- ---- the cases together
 module _ (k : ℕ) (s : Storey) (rows : List Member) where

@@ -1,132 +1,188 @@
--- One pass over the storeys of a building, and the answer by what it finds.
-use Prim.Native.Nat.{ℕ, zero, suc, ◌+◌, ◌≤◌, ◌<◌}
+-- The first of some numbers of which a test holds; so the storey and the case that the verdict names.
+use Prim.Native.Nat.{ℕ, zero, suc, ◌+◌, ◌-◌, ◌≤◌, ◌<◌}
 use native.Mathlib.Omega.{arith}
+use native.Mathlib.Nat.{eq-or-lt_of_le, not-suc-le-zero}
 use native.Mathlib.Numerals.{add-one}
-use mathlib.Core.Bool.{Bool, true, false, ◌||◌}
-use lib.Dec.{eqb}
-use mathlib.Core.List.{List, [], ◌∷◌}
-use mathlib.Core.Path.{◌≡◌, refl, ap, sym, ◌∙◌}
-use lib.ListN.{length, take, drop, get_or}
-use borrow.Author.Tests.{eq-eqb, ne_eqb}
-use Rattle.std.specs.Prelude.{Ok, Err, Option, None, Some}
-use Rattle.std.specs.Option.{is_some, ForSome}
-use Rattle.std.specs.List.{AllWithin, HoldsAt}
-use Rattle.std.proofs.lemmas.Iterator.{YieldsList}
-use Rattle.std.proofs.lemmas.Iterator.Consumers.{YieldsList-from_shown}
-use Rattle.records.specs.Forms.{form_number}
-use Rattle.records.specs.Records.{survey_of}
-use Rattle.records.specs.declared.{Header.Header, Storey.Storey, Member.Member}
-use Rattle.records.specs.Refusals.{refusal_number}
-use Rattle.records.specs.declared.refusal.Refusal.{Refusal}
-use Rattle.records.proofs.Refusals.{number-positive}
-use Rattle.records.specs.Notation.{any_below}
+use mathlib.Core.Bool.{Bool, true, false}
+use mathlib.Core.Logic.{⊎_elim}
+use mathlib.Core.List.{List}
+use mathlib.Core.Path.{◌≡◌, refl, sym, ap, ◌∙◌}
+use lib.Dec.{ltb, eqb}
+use lib.ListN.{length, get_or}
+use borrow.Author.Tests.{ne_eqb, lt-ltb, ltb-true, ltb-false}
+use Rattle.std.specs.Prelude.{None, Some}
+use Rattle.std.specs.List.{AllWithin, HoldsAt, range_with_len}
+use Rattle.std.proofs.lemmas.List.FromFn.{length-range_with_len, get_or-range_with_len}
+use Rattle.records.specs.Notation.{pick, any_below}
+use Rattle.records.specs.Records.{case_count, shear_of}
+use Rattle.records.specs.declared.{Storey.Storey, Member.Member}
+use Rattle.records.proofs.Firsts.{first_fault, first-none, first_more, first_next, first-kept, first-zero, first-stops, first-goes_on}
 use Rattle.records.proofs.Below.{any_none, any-more, any-holds}
-use Rattle.checks.specs.Rows.{storey_in, members_of, members_before, records_fault}
-use Rattle.checks.specs.RowChecks.{records_of}
-use Rattle.checks.specs.RowsInTurn.{storeys_left, members_left}
-use Rattle.checks.proofs.RowsInTurn.{members-later}
-use Rattle.storeys.proofs.GoodStoreys.{IsGiven}
-use Rattle.members.specs.declared.knowledge.Knowledge.{Knowledge}
-use Rattle.storeys.specs.GoodStoreys.{rows_left, form_of, level_of, GivesGoodStorey}
-use Rattle.storeys.specs.declared.good_storey.GoodStorey.{GoodStorey}
-use Rattle.storeys.specs.declared.good_survey.GoodSurvey.{GoodSurvey}
-use Rattle.storeys.specs.declared.good_storeys.GoodStoreys.{GoodStoreys}
-use Rattle.storeys.specs.Storey.{published_rules, storey_risky}
-use Rattle.storeys.specs.Building.{tilted, risky_at, some_risky, building_risky, building_answer_by, nowhere, named, Answers, storey_named, place_of}
-use Rattle.storeys.specs.FirstRisky.{risky_in, FirstRisky, none, first}
+use Rattle.checks.specs.Rows.{Survey, storey_in, members_of}
+use Rattle.storeys.specs.Storey.{Rules, case_risky, storey_risky, lowest_risky_case}
+use Rattle.storeys.specs.Building.{risky_at, some_risky, first_risky, lowest_case_at, first_risky_case}
+use Rattle.storeys.specs.Place.{case_numbered}
+use Rattle.storeys.specs.FirstRisky.{risky_in, case_risky_at, FirstNamed, LowestNamed, OldNamed, NoneNamed}
 
--- a storey that is given
-pub given-risky : (g : GoodSurvey) (i : ℕ) (x : GoodStorey) → IsGiven g i x → storey_risky published_rules (form_number x.form) x.level.hundredths x.storey.now x.members.now ≡ risky_in (records_of g.survey) i
-unfolding risky_at
-given-risky g i x given = rw (given.form, given.level, given.at.storey, given.at.own) refl
+-- ---- the first of the numbers below n of which a test holds, counted from 1; 0 where there is none
+pub data Seen (p : ℕ → Bool) (n : ℕ) : ℕ → Type 0 where
+  nothing : any_below p n ≡ false → ((j : ℕ) → j < n → p j ≡ false) → Seen p n 0
+  first-at : (i : ℕ) → i < n → p i ≡ true → ((j : ℕ) → j < i → p j ≡ false) → Seen p n (i + 1)
 
--- ---- the storeys that are left, each Risky or not
-abbrev risky : ℕ → ℕ → List Storey → List Member → List Bool
-risky form k [] ms = []
-risky form k (s ∷ ss) ms = storey_risky published_rules form k s (take s.count ms) ∷ risky form k ss (drop s.count ms)
+module _ (p : ℕ → Bool) where
+  abbrev pub numbered_if : ℕ → ℕ
+  numbered_if i = pick (p i) (i + 1) 0
 
-length-risky : (form k : ℕ) (ss : List Storey) (ms : List Member) → length (risky form k ss ms) ≡ length ss
-length-risky form k [] ms = refl
-length-risky form k (s ∷ ss) ms = ap suc (length-risky form k ss (drop s.count ms))
+  abbrev pub first_of : ℕ → ℕ
+  first_of = first_fault numbered_if
 
-risky-at : (form k : ℕ) (ss : List Storey) (ms : List Member) (i : ℕ) → i < length ss → get_or (risky form k ss ms) i false ≡ storey_risky published_rules form k (storey_in ss i) (members_of ss ms i)
-unfolding members_of members_before
-risky-at form k [] ms i l = absurd (omega arith)
-risky-at form k (s ∷ ss) ms zero l = refl
-risky-at form k (s ∷ ss) ms (suc i) l = rw (members-later s ss ms i) at (risky-at form k ss (drop s.count ms) i (omega arith))
+  -- of numbers of which it holds of none, and of those of which it holds of number i first
+  pub none-of : (n : ℕ) → ((j : ℕ) → j < n → p j ≡ false) → first_of n ≡ 0
+  none-of n h = first-zero 0 (λ r. r) numbered_if n refl (λ j l. rw (h j l))
 
-abbrev risky-left : GoodStoreys → List Bool
-risky-left s = risky (form_number (form_of s)) (level_of s).hundredths (storeys_left (rows_left s)) (members_left (rows_left s))
+  pub one-of : (n i : ℕ) → i < n → p i ≡ true → ((j : ℕ) → j < i → p j ≡ false) → first_of n ≡ i + 1
+  one-of n i l t h =
+      let k : first_of (i + 1) ≡ i + 1 = first_next 0 (λ r. r) numbered_if i (none-of i h) ∙ rw t refl in
+      first-kept 0 (λ r. r) numbered_if (i + 1) n (omega arith) (λ z. let w : ⊥ = omega (arith, k, z) in absurd w) ∙ k
 
-abbrev pub is-risky : GoodStorey → Bool
-is-risky good = storey_risky published_rules (form_number good.form) good.level.hundredths good.storey.now good.members.now
+  -- the numbers below n, listed
+  at-range : (n j d : ℕ) → j < n → get_or (range_with_len 0 n) j d ≡ j
+  at-range n j d h = let z : 0 + j ≡ j = omega arith in get_or-range_with_len 0 n j d h ∙ z
 
-risky-end : (s t : GoodStoreys) → GivesGoodStorey s None t → length (risky-left s) ≡ 0
-risky-end s t g = ap (λ ss. length (risky (form_number (form_of s)) (level_of s).hundredths ss (members_left (rows_left s)))) g.0
+  pub listed-none : (n : ℕ) → AllWithin (λ i. p i ≡ false) (range_with_len 0 n) 0 (length (range_with_len 0 n)) → first_of n ≡ 0
+  listed-none n w = none-of n (λ j h. rw (at-range n j 0 h) at (w j 0 (omega arith) (omega (arith, length-range_with_len 0 n))))
 
-after-first : (f k : ℕ) (ss : List Storey) (ms : List Member) (s : Storey) (own : List Member) (rest : List Storey) (left : List Member) (g l h m : ℕ)
-    → ss ≡ s ∷ rest → own ≡ take s.count ms → left ≡ drop s.count ms → g ≡ f → l ≡ k → h ≡ f → m ≡ k → risky f k ss ms ≡ storey_risky published_rules g l s own ∷ risky h m rest left
-after-first f k ss ms s own rest left g l h m a b c d e i j = rw (a, b, c, d, e, i, j) refl
+  pub listed-one : (n i : ℕ) → (i < length (range_with_len 0 n)) × HoldsAt (λ j. p j ≡ true) (range_with_len 0 n) i × AllWithin (λ j. p j ≡ false) (range_with_len 0 n) 0 i → first_of n ≡ i + 1
+  listed-one n i w =
+      let l : i < n = omega (arith, w.0, length-range_with_len 0 n) in
+      one-of n i l (rw (at-range n i 0 l) at (w.1 0)) (λ j h. rw (at-range n j 0 (omega arith)) at (w.2 j 0 (omega arith) h))
 
-risky-next : (s : GoodStoreys) (x : GoodStorey) (t : GoodStoreys) → GivesGoodStorey s (Some x) t → risky-left s ≡ is-risky x ∷ risky-left t
-risky-next s x t g =
-    let level = λ (k : Knowledge). k.hundredths in
-    after-first _ _ _ (members_left (rows_left s)) x.storey.now x.members.now _ _ _ _ _ _ g.0.0 g.0.1 g.0.2 (ap form_number g.1) (ap level g.2) (ap form_number g.3) (ap level g.4)
+  none-more : (n : ℕ) → ((j : ℕ) → j < n → p j ≡ false) → p n ≡ false → (j : ℕ) → j < n + 1 → p j ≡ false
+  none-more n b e j h = let l : j ≤ n = omega arith in ⊎_elim (λ (q : j ≡ n). rw q e) (λ (m : j < n). b j m) (eq-or-lt_of_le l)
 
-none-below : (p : ℕ → Bool) (n : ℕ) → ((j : ℕ) → j < n → p j ≡ false) → any_below p n ≡ false
-none-below p zero h = any_none p
-none-below p (suc n) h = rw add-one at (any-more p n (none-below p n (λ j l. h j (omega arith))) (h n (omega arith)))
+  seen-next : (t : Bool) (n x : ℕ) → p n ≡ t → Seen p n x → Seen p (n + 1) (pick (eqb x 0) (pick t (n + 1) 0) x)
+  seen-next true n x e (nothing a b) = first-at n (omega arith) e b
+  seen-next false n x e (nothing a b) = nothing (any-more p n a e) (none-more n b e)
+  seen-next t n x e (first-at i h q b) = rw (ne_eqb (i + 1) 0 (λ z. let w : ⊥ = omega arith in absurd w)) (first-at i (omega arith) q b)
 
-module _ (g : GoodSurvey) where
-  abbrev pub all-risky : List Bool
-  all-risky = risky (form_number g.form) g.level.hundredths g.survey.storeys.now g.survey.members.now
+  pub seen : (n : ℕ) → Seen p n (first_of n)
+  seen zero = rw (first-none 0 (λ r. r) numbered_if) (nothing (any_none p) (λ j h. absurd (not-suc-le-zero h)))
+  seen (suc n) = rw (← add-one n) (rw (first_more 0 (λ r. r) numbered_if n) (seen-next (p n) n (first_of n) refl (seen n)))
 
-  same-risky : (f f' k k' : ℕ) (ss ss' : List Storey) (ms ms' : List Member) → f ≡ f' → k ≡ k' → ss ≡ ss' → ms ≡ ms' → risky f k ss ms ≡ risky f' k' ss' ms'
-  same-risky f f' k k' ss ss' ms ms' a b c d = rw (a, b, c, d) refl
+  -- some number below n has it exactly where one is named
+  some-named : (n x : ℕ) → Seen p n x → ltb 0 x ≡ any_below p n
+  some-named n x (nothing a b) = sym a
+  some-named n x (first-at i h q b) = lt-ltb 0 (i + 1) (omega arith) ∙ sym (any-holds p n i h q)
 
-  -- every storey is given in turn
-  pub all-given : (from : GoodStoreys) → storeys_left (rows_left from) ≡ g.survey.storeys.now → members_left (rows_left from) ≡ g.survey.members.now → form_of from ≡ g.form → level_of from ≡ g.level
-      → YieldsList GivesGoodStorey is-risky from all-risky
-  all-given from ss ms form level =
-      let same = same-risky _ _ _ _ _ _ _ _ (ap form_number form) (ap (λ (k : Knowledge). k.hundredths) level) ss ms in
-      rw same at (YieldsList-from_shown GivesGoodStorey is-risky risky-left risky-end risky-next from)
+  named-at : (n x i : ℕ) → Seen p n x → x ≡ i + 1 → (i < n) × (p i ≡ true) × ((j : ℕ) → j < i → p j ≡ false)
+  named-at n x i (nothing a b) e = let z : ⊥ = omega (arith, e) in absurd z
+  named-at n x i (first-at k h q b) e =
+      let d : k ≡ i = omega (arith, e) in
+      let t : (k < n) × (p k ≡ true) × ((j : ℕ) → j < k → p j ≡ false) = (h, q, b) in
+      rw d at t
 
-  length-all : length all-risky ≡ length g.survey.storeys.now
-  length-all = length-risky (form_number g.form) g.level.hundredths g.survey.storeys.now g.survey.members.now
+-- ---- a case by its number, where there is one and where there is none
+pub case-is : (x c : ℕ) → Some c ≡ case_numbered x → (c ≡ x) × (0 < c)
+case-is zero c e = absurd (some-or-none e)
+  where
+    some-or-none : Some c ≡ None → ⊥
+    some-or-none e = let z : ◌≡◌ {A = ℕ} 0 1 = cc in omega arith
+case-is (suc x) c e = let n : c ≡ suc x = cc in (n, omega (arith, n))
 
-  all-at : (i : ℕ) → i < length g.survey.storeys.now → get_or all-risky i false ≡ risky_in (records_of g.survey) i
-  unfolding risky_at
-  all-at i l = rw (← g.in_form, ← g.in_level) (risky-at (form_number g.form) g.level.hundredths g.survey.storeys.now g.survey.members.now i l)
+pub case-none : (x : ℕ) → None ≡ case_numbered x → 0 ≡ x
+case-none zero e = refl
+case-none (suc x) e = let z : ◌≡◌ {A = ℕ} 0 1 = cc in absurd (omega arith)
 
-  -- none of some is Risky; the first of them that is
-  none-at : (n : ℕ) → n ≤ length all-risky → AllWithin (λ b. b ≡ false) all-risky 0 n → any_below (risky_in (records_of g.survey)) n ≡ false
-  none-at n l w = none-below (risky_in (records_of g.survey)) n (λ j h. sym (all-at j (omega (arith, length-all))) ∙ w j false (omega arith) h)
+pub case-next : (x c : ℕ) → x ≡ c + 1 → Some (c + 1) ≡ case_numbered x
+case-next zero c e = absurd (omega (arith, e))
+case-next (suc x) c e = ap Some (sym e)
 
-  pub first-none : AllWithin (λ b. b ≡ false) all-risky 0 (length all-risky) → FirstRisky (records_of g.survey) None
+-- ---- a storey is Risky exactly where it has a lowest numbered Risky case
+pub risky-case : (rules : Rules) (form k : ℕ) (s : Storey) (ms : List Member) → storey_risky rules form k s ms ≡ ltb 0 (lowest_risky_case rules form k s ms)
+unfolding storey_risky lowest_risky_case
+risky-case rules form k s ms =
+    let p : ℕ → Bool = λ l. case_risky rules k l (shear_of l s) ms in
+    sym (some-named p (case_count form) (first_of p (case_count form)) (seen p (case_count form)))
+
+module _ (rules : Rules) (a : Survey) where
+  first-seen : Seen (risky_in rules a) (length a.storeys) (first_risky rules a)
+  unfolding first_risky
+  first-seen = seen (risky_in rules a) (length a.storeys)
+
+  pub some-first : ltb 0 (first_risky rules a) ≡ some_risky rules a
   unfolding some_risky
-  first-none w = none (rw length-all at (none-at (length all-risky) (omega arith) w))
+  some-first = some-named (risky_in rules a) (length a.storeys) (first_risky rules a) first-seen
 
-  pub first-some : (i : ℕ) → (i < length all-risky) × HoldsAt (λ b. b ≡ true) all-risky i × AllWithin (λ b. b ≡ false) all-risky 0 i → FirstRisky (records_of g.survey) (Some (i + 1))
-  first-some i w =
-      let l : i < length g.survey.storeys.now = omega (arith, w.0, length-all) in
-      first i l (sym (all-at i l) ∙ w.1 false) (none-at i (omega (arith, w.0)) w.2)
+  -- storey i with its lowest numbered Risky case
+  pub risky-there : (i : ℕ) → risky_in rules a i ≡ ltb 0 (lowest_case_at rules a.header.form a.header.knowledge a.storeys a.members i)
+  unfolding risky_at lowest_case_at
+  risky-there i = risky-case rules a.header.form a.header.knowledge (storey_in a.storeys i) (members_of a.storeys a.members i)
 
--- ---- the answer
-place-named : (n : ℕ) → place_of (storey_named n) ≡ n
-place-named zero = refl
-place-named (suc n) = refl
+  -- at storey i, before which none is Risky: it is named with its case, where it has one; else the next may be
+  pub named-here : (i c : ℕ) → i < length a.storeys → first_of (risky_in rules a) i ≡ 0 → c ≡ lowest_case_at rules a.header.form a.header.knowledge a.storeys a.members i → 0 < c → first_risky rules a ≡ i + 1
+  unfolding first_risky
+  named-here i c l before e h =
+      let t : risky_in rules a i ≡ true = risky-there i ∙ ap (ltb 0) (sym e) ∙ lt-ltb 0 c h in
+      sym (first-stops (numbered_if (risky_in rules a)) (length a.storeys) i (i + 1) before l (rw t refl) (omega arith))
 
-module _ (h : Header) (ss : List Storey) (ms : List Member) where
-  pub refused : (r : Refusal) → refusal_number r ≡ records_fault (survey_of h ss ms) → Answers published_rules (survey_of h ss ms) (Err (refusal_number r))
-  unfolding building_answer_by
-  refused r e =
-      let n : eqb (refusal_number r) 0 ≡ false = ne_eqb (refusal_number r) 0 (λ z. let w : ⊥ = omega (arith, number-positive r) in absurd w) in
-      record { same = rw (← e, n) refl; place = tt }
+  pub passed-here : (i : ℕ) → first_of (risky_in rules a) i ≡ 0 → 0 ≡ lowest_case_at rules a.header.form a.header.knowledge a.storeys a.members i → first_of (risky_in rules a) (i + 1) ≡ 0
+  passed-here i before e =
+      let t : risky_in rules a i ≡ false = risky-there i ∙ ap (ltb 0) (sym e) in
+      first-goes_on (numbered_if (risky_in rules a)) i before (rw t refl)
 
-  pub judged : (r : Option ℕ) (c : ForSome r (λ n. 0 < n)) → records_fault (survey_of h ss ms) ≡ 0 → FirstRisky (survey_of h ss ms) r
-      → Answers published_rules (survey_of h ss ms) (Ok (record { tilted = tilted h; risky = is_some r || tilted h; place = r; counted = c }))
-  unfolding building_answer_by building_risky some_risky
-  judged _ c clear (none f) = record { same = rw (eq-eqb (records_fault (survey_of h ss ms)) 0 clear, f) refl; place = nowhere f }
-  judged _ c clear (first i l e f) =
-      let some = any-holds (risky_in (survey_of h ss ms)) (length ss) i l e in
-      record { same = rw (eq-eqb (records_fault (survey_of h ss ms)) 0 clear, some, place-named (i + 1)) refl; place = named i l e }
+  pub none-named-yet : first_of (risky_in rules a) (length a.storeys) ≡ 0 → first_risky rules a ≡ 0
+  unfolding first_risky
+  none-named-yet e = e
+
+  -- the case named is that of the storey named
+  pub case-of-first : (i : ℕ) → first_risky rules a ≡ i + 1 → first_risky_case rules a ≡ lowest_case_at rules a.header.form a.header.knowledge a.storeys a.members i
+  unfolding first_risky_case
+  case-of-first i e = let z : (i + 1) - 1 ≡ i = omega arith in rw (e, ne_eqb (i + 1) 0 (λ q. let w : ⊥ = omega arith in absurd w), z)
+
+  pub no-case : first_risky rules a ≡ 0 → first_risky_case rules a ≡ 0
+  unfolding first_risky_case
+  no-case e = rw e
+
+  lowest-positive : (i : ℕ) → first_risky rules a ≡ i + 1 → ltb 0 (first_risky_case rules a) ≡ true
+  lowest-positive i e =
+      ap (ltb 0) (case-of-first i e) ∙ sym (risky-there i) ∙ (named-at (risky_in rules a) (length a.storeys) (first_risky rules a) i first-seen e).1
+
+  module _ (i : ℕ) where
+    lowest-seen : Seen (case_risky_at rules a i) (case_count a.header.form) (lowest_case_at rules a.header.form a.header.knowledge a.storeys a.members i)
+    unfolding lowest_case_at lowest_risky_case
+    lowest-seen = seen (case_risky_at rules a i) (case_count a.header.form)
+
+pub first-named : FirstNamed
+first-named rules a i e = named-at (risky_in rules a) (length a.storeys) (first_risky rules a) i (first-seen rules a) e
+
+pub lowest-named : LowestNamed
+lowest-named rules a i e l f = named-at (case_risky_at rules a i) (case_count a.header.form) _ l (lowest-seen rules a i) (sym (case-of-first rules a i e) ∙ f)
+
+-- a number that is not 0, and one that is
+positive : (x : ℕ) → ltb 0 x ≡ true → x ≡ 0 → ⊥
+positive x t e = let z : ⊥ = omega (arith, ltb-true 0 x t, e) in z
+
+none : (x : ℕ) → ltb 0 x ≡ false → x ≡ 0
+none x t = let l = ltb-false 0 x t in omega (arith, l)
+
+pub old-named : OldNamed
+old-named rules a i o e = case (first_risky_case rules a) refl (ltb-true 0 (first_risky_case rules a) (lowest-positive rules a i e))
+  where
+    case : (x : ℕ) → first_risky_case rules a ≡ x → 0 < first_risky_case rules a → first_risky_case rules a ≡ 1
+    case zero q h = let z : ⊥ = omega (arith, q, h) in absurd z
+    case (suc x) q h =
+        let f : first_risky_case rules a ≡ x + 1 = omega (arith, q) in
+        let l = (lowest-named rules a i e x f).0 in
+        let n : case_count a.header.form ≡ 1 = rw o in
+        omega (arith, f, l, n)
+
+-- the first Risky storey by its place
+by-place : (rules : Rules) (a : Survey) (x : ℕ) → first_risky rules a ≡ x → some_risky rules a ≡ true → (first_risky rules a ≡ 0 → ⊥) × (first_risky_case rules a ≡ 0 → ⊥)
+by-place rules a zero q t = let z : ⊥ = positive (first_risky rules a) (some-first rules a ∙ t) q in absurd z
+by-place rules a (suc x) q t =
+    let f : first_risky rules a ≡ x + 1 = omega (arith, q) in
+    (positive (first_risky rules a) (some-first rules a ∙ t), positive (first_risky_case rules a) (lowest-positive rules a x f))
+
+pub none-named : NoneNamed
+none-named rules a =
+    (λ e. let z = none (first_risky rules a) (some-first rules a ∙ e) in (z, no-case rules a z), λ t. by-place rules a (first_risky rules a) refl t)

@@ -1,17 +1,20 @@
 -- The storeys of a good survey in turn: each is good, and which are given.
-use Prim.Native.Nat.{ℕ, suc, ◌<◌}
+use Prim.Native.Nat.{ℕ, suc, ◌+◌, ◌<◌}
 use native.Mathlib.Omega.{arith}
 use mathlib.Core.List.{List, [], ◌∷◌, map}
-use mathlib.Core.Path.{◌≡◌, ap, sym, ◌∙◌}
+use mathlib.Core.Path.{◌≡◌, refl, ap, sym, ◌∙◌}
 use lib.ListN.{length, drop, take}
 use Rattle.std.specs.Prelude.{None, Some}
 use Rattle.std.specs.Iterator.{Yields}
+use Rattle.std.specs.Iterator.Adapters.{enumerate_source, enumerate_count, enumerate_steps}
+use Rattle.std.specs.declared.iter.Enumerate.{Enumerate}
 use Rattle.std.proofs.lemmas.List.{length-map}
 use Rattle.records.specs.Forms.{form_number}
 use Rattle.records.specs.Records.{storey_fault, repeated, survey_of}
 use Rattle.records.specs.declared.{Header.Header, Storey.Storey, Member.Member}
 use Rattle.records.proofs.Validity.{count_most}
 use Rattle.checks.specs.Rows.{member_rows_fault, storey_in, members_of, members_before, records_fault}
+use Rattle.checks.specs.RowChecks.{records_of}
 use Rattle.checks.specs.RowsInTurn.{storeys_left, members_left, GivesStorey}
 use Rattle.checks.specs.declared.storey_rows.StoreyRows.{StoreyRows}
 use Rattle.checks.proofs.Refusals.{None as NoneOf, one, rest}
@@ -19,6 +22,9 @@ use Rattle.checks.proofs.RowLaws.{members-counted, total-counted, rows}
 use Rattle.checks.proofs.RowsInTurn.{Given, IsStorey, members-later, turn, all-given}
 use Rattle.members.specs.declared.knowledge.Knowledge.{Knowledge}
 use Rattle.storeys.specs.Rows.{Rows, GoodRows}
+use Rattle.storeys.specs.Storey.{published_rules, storey_risky, lowest_risky_case}
+use Rattle.storeys.specs.Building.{risky_at, lowest_case_at}
+use Rattle.storeys.specs.FirstRisky.{risky_in}
 use Rattle.storeys.specs.GoodStoreys.{rows_left, form_of, level_of, GivesGoodStorey}
 use Rattle.storeys.specs.declared.good_storey.GoodStorey.{GoodStorey}
 use Rattle.storeys.specs.declared.good_survey.GoodSurvey.{GoodSurvey}
@@ -78,6 +84,16 @@ pub record IsGiven (g : GoodSurvey) (i : ℕ) (x : GoodStorey) : Type 0 where
   pub form : form_number x.form ≡ g.survey.header.form
   pub level : x.level.hundredths ≡ g.survey.header.knowledge
 
+-- it is Risky, and in which case first, as storey i of the records is
+pub given-risky : (g : GoodSurvey) (i : ℕ) (x : GoodStorey) → IsGiven g i x → storey_risky published_rules (form_number x.form) x.level.hundredths x.storey.now x.members.now ≡ risky_in published_rules (records_of g.survey) i
+unfolding risky_at
+given-risky g i x given = rw (given.form, given.level, given.at.storey, given.at.own) refl
+
+pub given-case : (g : GoodSurvey) (i : ℕ) (x : GoodStorey) → IsGiven g i x → let a = records_of g.survey in
+    lowest_risky_case published_rules (form_number x.form) x.level.hundredths x.storey.now x.members.now ≡ lowest_case_at published_rules a.header.form a.header.knowledge a.storeys a.members i
+unfolding lowest_case_at
+given-case g i x given = rw (given.form, given.level, given.at.storey, given.at.own) refl
+
 same-storey : (ss ss' : List Storey) (ms ms' : List Member) (i j : ℕ) (x : Given) → ss ≡ ss' → ms ≡ ms' → i ≡ j → IsStorey ss ms i x → IsStorey ss' ms' j x
 same-storey ss ss' ms ms' i j x a b c at = rw (a, b, c) at at
 
@@ -97,3 +113,26 @@ module _ (given : List GoodStorey) (s t u : GoodStoreys) (y : Yields GivesGoodSt
   -- where none is given any more, all were given
   pub good-all : GivesGoodStorey t None u → length given ≡ length (storeys_left (rows_left s))
   good-all k = sym (length-map given given-rows) ∙ all-given (map given-rows given) (rows_left s) (rows_left t) (rows_left u) (rows-given given s t y).0 k
+
+-- ---- the same with numbers from 0
+abbrev pub Numbered : Type 0
+Numbered = ℕ × GoodStorey
+
+unnumbered : (given : List Numbered) (s t : Enumerate GoodStoreys) → Yields (enumerate_steps GivesGoodStorey) s given t
+    → Yields GivesGoodStorey (enumerate_source s) (map (λ (x : Numbered). x.1) given) (enumerate_source t) × (enumerate_count t ≡ enumerate_count s + length given)
+unnumbered [] s t y = (ap enumerate_source y, omega (arith, ap enumerate_count y))
+unnumbered (x ∷ given) s t y =
+    let r = unnumbered given y.0 t y.2 in
+    ((enumerate_source y.0, y.1.0, r.0), omega (arith, r.1, y.1.2))
+
+module _ (given : List Numbered) (s t u : Enumerate GoodStoreys) (y : Yields (enumerate_steps GivesGoodStorey) s given t) (e : enumerate_count s ≡ 0) where
+  so-far : length (map (λ (x : Numbered). x.1) given) ≡ enumerate_count t
+  so-far = omega (arith, length-map given (λ (x : Numbered). x.1), (unnumbered given s t y).1, e)
+
+  pub numbered-turn : (g : GoodSurvey) → storeys_left (rows_left (enumerate_source s)) ≡ g.survey.storeys.now → members_left (rows_left (enumerate_source s)) ≡ g.survey.members.now → form_of (enumerate_source s) ≡ g.form → level_of (enumerate_source s) ≡ g.level
+      → (x : Numbered) → enumerate_steps GivesGoodStorey t (Some x) u → IsGiven g x.0 x.1
+  numbered-turn g ss ms form level x k =
+      rw (k.1, ← so-far) (good-turn (map (λ (x : Numbered). x.1) given) (enumerate_source s) (enumerate_source t) (enumerate_source u) (unnumbered given s t y).0 g ss ms form level x.1 k.0)
+
+  pub numbered-all : enumerate_steps GivesGoodStorey t None u → enumerate_count t ≡ length (storeys_left (rows_left (enumerate_source s)))
+  numbered-all k = sym so-far ∙ good-all (map (λ (x : Numbered). x.1) given) (enumerate_source s) (enumerate_source t) (enumerate_source u) (unnumbered given s t y).0 k.0

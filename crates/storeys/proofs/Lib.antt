@@ -6,4 +6,5 @@ pub mod Shears
 pub mod Cases
 pub mod GoodStoreys
 pub mod FirstRisky
+pub mod Answered
 pub mod Returned

@@ -6,18 +6,17 @@ use mathlib.Core.Path.{◌≡◌, refl, ap, sym, ◌∙◌}
 use lib.Dec.{eqb}
 use lib.ListN.{get_or, drop}
 use Rattle.std.specs.Prelude.{Result, Ok, Err, Option, Some, None}
-use Rattle.std.specs.Option.{ForSome}
-use Rattle.std.specs.Coded.{Π_prop, le_prop}
-use Rattle.std.proofs.Common.{subst, arith, ◌<◌, zero, suc}
-use Rattle.records.specs.Records.{survey_of}
-use Rattle.records.specs.declared.{Header.Header, Storey.Storey, Member.Member, by_case.ByForm.ByForm, by_case.ByForm.TheVariants.One, by_case.ByForm.TheVariants.Four}
+use Rattle.std.specs.Coded.{le_prop}
+use Rattle.std.proofs.Common.{arith, ◌<◌, zero, suc}
+use Rattle.records.specs.declared.{by_case.ByForm.ByForm, by_case.ByForm.TheVariants.One, by_case.ByForm.TheVariants.Four}
 use Rattle.members.specs.Finding.{Returned}
 use Rattle.members.proofs.Returned.{flag-told}
 use Rattle.totals.specs.declared.StoreyFinding.{StoreyFinding}
 use Rattle.storeys.specs.declared.StoreyJudgment.{StoreyJudgment}
-use Rattle.storeys.specs.declared.BuildingFinding.{BuildingFinding}
-use Rattle.storeys.specs.Storey.{Rules, finding_values, returned_storey}
-use Rattle.storeys.specs.Building.{storey_named, named-counted, place_of, building_answer_by, place_in, Answers, returned_building}
+use Rattle.storeys.specs.declared.{RiskyStorey.RiskyStorey, BuildingFinding.BuildingFinding}
+use Rattle.storeys.specs.Storey.{finding_values, returned_storey}
+use Rattle.storeys.specs.Building.{returned_building}
+use Rattle.storeys.specs.Place.{place_of, case_number_of}
 
 abbrev finding-of : List ℕ → StoreyFinding
 finding-of vs =
@@ -74,25 +73,32 @@ storey-told (Err n) = refl
 pub storey-answer-is : (a b : Result StoreyJudgment ℕ) → returned_storey a ≡ returned_storey b → a ≡ b
 storey-answer-is a b e = sym (storey-told a) ∙ ap (λ (r : Returned). storey-by r.refusal r.values (drop 12 r.values)) e ∙ storey-told b
 
-named-told : (o : Option ℕ) → ForSome o (λ n. 0 < n) → storey_named (place_of o) ≡ o
-named-told None c = refl
-named-told (Some zero) c = let z : 0 < 0 = c 0 refl in let w : ⊥ = omega arith in absurd w
-named-told (Some (suc n)) c = refl
+-- by the numbers of the storey named
+abbrev named-of : ℕ → ℕ → Option RiskyStorey
+named-of zero c = None
+named-of (suc p) zero = None
+named-of (suc p) (suc c) = Some (record { place = suc p; case = suc c; counted = (omega arith, omega arith) })
 
-abbrev building : Bool → Bool → (o : Option ℕ) → ForSome o (λ n. 0 < n) → BuildingFinding
-building t r o c = record { tilted = t; risky = r; place = o; counted = c }
+abbrev risky-storey : (p c : ℕ) → (0 < p) × (0 < c) → RiskyStorey
+risky-storey p c h = record { place = p; case = c; counted = h }
 
-counted-same : (o : Option ℕ) (c d : ForSome o (λ n. 0 < n)) → c ≡ d
-counted-same o = Π_prop (λ n. Π_prop (λ e. le_prop))
+counted-same : (p c : ℕ) (h k : (0 < p) × (0 < c)) → risky-storey p c h ≡ risky-storey p c k
+counted-same p c h k = let a : h.0 ≡ k.0 = le_prop h.0 k.0 in let b : h.1 ≡ k.1 = le_prop h.1 k.1 in ap (risky-storey p c) (rw (a, b) refl)
 
-building-same : (t r : Bool) (o p : Option ℕ) (c : ForSome o (λ n. 0 < n)) (d : ForSome p (λ n. 0 < n)) → o ≡ p → building t r o c ≡ building t r p d
-building-same t r o p c d e = subst (λ q. (x : ForSome q (λ n. 0 < n)) → building t r o c ≡ building t r q x) e (λ x. ap (building t r o) (counted-same o c x)) d
+named-told : (o : Option RiskyStorey) → named-of (place_of o) (case_number_of o) ≡ o
+named-told None = refl
+named-told (Some s) = by-numbers s.place s.case s.counted
+  where
+    by-numbers : (p c : ℕ) (h : (0 < p) × (0 < c)) → named-of p c ≡ Some (risky-storey p c h)
+    by-numbers zero c h = absurd (omega (arith, h.0))
+    by-numbers (suc p) zero h = absurd (omega (arith, h.1))
+    by-numbers (suc p) (suc c) h = ap Some (counted-same (suc p) (suc c) _ h)
 
 abbrev building-of : List ℕ → BuildingFinding
-building-of vs = building (eqb (get_or vs 0 0) 1) (eqb (get_or vs 1 0) 1) (storey_named (get_or vs 2 0)) (named-counted (get_or vs 2 0))
+building-of vs = record { tilted = eqb (get_or vs 0 0) 1; risky = eqb (get_or vs 1 0) 1; first = named-of (get_or vs 2 0) (get_or vs 3 0) }
 
 building-told : (f : BuildingFinding) → building-of (returned_building (Ok f)).values ≡ f
-building-told f = rw (flag-told f.tilted, flag-told f.risky) (building-same f.tilted f.risky _ f.place _ f.counted (named-told f.place f.counted))
+building-told f = rw (flag-told f.tilted, flag-told f.risky, named-told f.first) refl
 
 abbrev building-by : ℕ → List ℕ → Result BuildingFinding ℕ
 building-by n [] = Err n
@@ -104,7 +110,3 @@ building-answer-told (Err n) = refl
 
 pub building-answer-is : (a b : Result BuildingFinding ℕ) → returned_building a ≡ returned_building b → a ≡ b
 building-answer-is a b e = sym (building-answer-told a) ∙ ap (λ (r : Returned). building-by r.refusal r.values) e ∙ building-answer-told b
-
--- the answer of the call on a building, but for its place
-pub answer-same : (rules : Rules) (h : Header) (ss : List Storey) (ms : List Member) (r : Result BuildingFinding ℕ) → Answers rules (survey_of h ss ms) r → r ≡ building_answer_by rules (survey_of h ss ms) (place_in r)
-answer-same rules h ss ms r says = building-answer-is r (building_answer_by rules (survey_of h ss ms) (place_in r)) says.same

@@ -1,12 +1,11 @@
 -- The judgment of a building (document 01, "Storey and building", "Refusals as returned"): any survey.
-use Rattle.std.specs.Prelude.{◌+◌, ◌<◌, ◌||◌, ◌∷◌, ◌≡◌}
-use Rattle.records.specs.Notation.{ℕ, max, Bool, true, false, List, [], ltb, eqb, length, pick, any_below}
+use Rattle.std.specs.Prelude.{◌+◌, ◌-◌, ◌||◌, ◌∷◌}
+use Rattle.records.specs.Notation.{ℕ, max, Bool, List, [], ltb, eqb, length, pick, any_below, first}
 use Rattle.checks.specs.Rows.{Header, Storey, Member, Survey, records_fault, storey_in, members_of}
 use Rattle.members.specs.Finding.{flag, Returned, found, refused}
-use Rattle.storeys.specs.Storey.{Rules, storey_risky}
+use Rattle.storeys.specs.Storey.{Rules, storey_risky, lowest_risky_case}
 use Rattle.std.specs.Prelude.{Result, Ok, Err}
-pub use Rattle.storeys.specs.Place.{storey_named, place_of}
-pub use Rattle.storeys.specs.Counted.{named-counted}
+use Rattle.storeys.specs.Place.{place_of, case_number_of}
 use Rattle.storeys.specs.declared.BuildingFinding.{BuildingFinding}
 
 -- storey i is Risky
@@ -28,31 +27,27 @@ some_risky rules a = any_below (risky_at rules a.header.form a.header.knowledge 
 unfoldable pub building_risky : Rules → Survey → Bool
 building_risky rules a = some_risky rules a || tilted a.header
 
--- the finding, with the place that it names; before it the refusals of the records
-unfoldable pub building_answer_by : Rules → Survey → ℕ → Result BuildingFinding ℕ
-building_answer_by rules a place =
-    pick (eqb (records_fault a) 0) (Ok (record { tilted = tilted a.header; risky = building_risky rules a; place = storey_named place; counted = named-counted place })) (Err (records_fault a))
+-- "Name the first Risky storey in survey order, with none Risky before it" (document 02, N7): its place, counted from 1; 0 where no storey is Risky
+unfoldable pub first_risky : Rules → Survey → ℕ
+first_risky rules a = first 0 (λ n. n) (λ i. pick (risky_at rules a.header.form a.header.knowledge a.storeys a.members i) (i + 1) 0) (length a.storeys)
 
--- "names a Risky storey's place, counted from 1. Which one is free where several are; 0 where none is"
-pub data PlaceOk (rules : Rules) (a : Survey) : ℕ → Type 0 where
-  nowhere : some_risky rules a ≡ false → PlaceOk rules a 0
-  named : (i : ℕ) → i < length a.storeys → risky_at rules a.header.form a.header.knowledge a.storeys a.members i ≡ true → PlaceOk rules a (i + 1)
+-- the lowest numbered Risky case of storey i
+unfoldable pub lowest_case_at : Rules → ℕ → ℕ → List Storey → List Member → ℕ → ℕ
+lowest_case_at rules form k ss ms i = lowest_risky_case rules form k (storey_in ss i) (members_of ss ms i)
 
--- the place that an answer names; a refusal names none
-abbrev pub place_in : Result BuildingFinding ℕ → ℕ
-place_in (Ok f) = place_of f.place
-place_in (Err n) = 0
+-- "Beside it stands that storey's lowest numbered Risky case, 1 in the old form, 0 where no storey is named"
+unfoldable pub first_risky_case : Rules → Survey → ℕ
+first_risky_case rules a =
+    pick (eqb (first_risky rules a) 0) 0 (lowest_case_at rules a.header.form a.header.knowledge a.storeys a.members (first_risky rules a - 1))
 
-abbrev pub PlaceInOk : Rules → Survey → Result BuildingFinding ℕ → Type 0
-PlaceInOk rules a (Ok f) = PlaceOk rules a (place_of f.place)
-PlaceInOk rules a (Err n) = Unit
+-- what the paper returns of a building: the refusal of its records; or tilted, Risky, the place and the case
+unfoldable pub building_returned : Rules → Survey → Returned
+building_returned rules a =
+    pick (eqb (records_fault a) 0)
+    (found (flag (tilted a.header) ∷ flag (building_risky rules a) ∷ first_risky rules a ∷ first_risky_case rules a ∷ []))
+    (refused (records_fault a))
 
--- what each case of the answer says: the values of a printed building, and the place
+-- what each case of the answer says: the values of a printed building, the place and the case
 abbrev pub returned_building : Result BuildingFinding ℕ → Returned
-returned_building (Ok f) = found (flag f.tilted ∷ flag f.risky ∷ place_of f.place ∷ [])
+returned_building (Ok f) = found (flag f.tilted ∷ flag f.risky ∷ place_of f.first ∷ case_number_of f.first ∷ [])
 returned_building (Err n) = refused n
-
--- what the call on a building answers: all but the place is equated
-pub record Answers (rules : Rules) (a : Survey) (r : Result BuildingFinding ℕ) : Type 0 where
-  pub same : returned_building r ≡ returned_building (building_answer_by rules a (place_in r))
-  pub place : PlaceInOk rules a r

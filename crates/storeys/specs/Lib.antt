@@ -1,7 +1,6 @@
 pub mod Rows
 pub mod Storey
 pub mod Place
-pub mod Counted
 pub mod Building
 pub mod Tally
 pub mod FirstRisky

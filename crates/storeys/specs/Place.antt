@@ -1,12 +1,18 @@
--- The place of a storey.
+-- The storey and the case that an answer names, by their numbers.
 use Rattle.std.specs.Prelude.{Option, Some, None}
 use Rattle.records.specs.Notation.{ℕ, zero, suc}
+use Rattle.storeys.specs.declared.RiskyStorey.{RiskyStorey}
 
--- a storey named by its place, counted from 1; 0 names none
-abbrev pub storey_named : ℕ → Option ℕ
-storey_named zero = None
-storey_named (suc n) = Some (suc n)
+-- a case by its number, counted from 1; 0 is none
+abbrev pub case_numbered : ℕ → Option ℕ
+case_numbered zero = None
+case_numbered (suc n) = Some (suc n)
 
-abbrev pub place_of : Option ℕ → ℕ
+-- the place of the storey named, and its case; 0 where none is named
+abbrev pub place_of : Option RiskyStorey → ℕ
 place_of None = 0
-place_of (Some n) = n
+place_of (Some s) = s.place
+
+abbrev pub case_number_of : Option RiskyStorey → ℕ
+case_number_of None = 0
+case_number_of (Some s) = s.case

@@ -1,7 +1,7 @@
 -- The judgment of a storey (document 01, "Storey and building", "Refusals as returned"; document 02, N3): any storey record with any rows of members. What goes by
 -- load case takes the case l, counted from 0.
 use Rattle.std.specs.Prelude.{◌+◌, ◌*◌, ◌&&◌, ◌||◌, ◌∷◌, ◌++◌}
-use Rattle.records.specs.Notation.{ℕ, Bool, List, [], leb, ltb, eqb, length, pick, in_order, total, any_of, any_below}
+use Rattle.records.specs.Notation.{ℕ, Bool, List, [], leb, ltb, eqb, length, pick, in_order, total, any_of, any_below, first}
 use Rattle.records.specs.{declared.Storey.Storey, declared.Member.Member, Records.in_cases, Records.known_form, Records.case_count, Records.shear_of, Records.case_of, Records.in_case, Records.storey_fault}
 use Rattle.checks.specs.Rows.{count_fault, member_rows_fault}
 use Rattle.members.specs.{declared.tables.Share.Share, declared.tables.LimitSet.LimitSet, Tables.published, Tables.published_share}
@@ -69,6 +69,10 @@ case_risky rules k l w ms = risky_by_share rules k l w ms || (risky_by_one_over 
 -- "A storey is Risky when it is in some case" (document 02, N3)
 unfoldable pub storey_risky : Rules → ℕ → ℕ → Storey → List Member → Bool
 storey_risky rules form k s ms = any_below (λ l. case_risky rules k l (shear_of l s) ms) (case_count form)
+
+-- "that storey's lowest numbered Risky case, 1 in the old form" (document 02, N7); 0 where none is Risky
+unfoldable pub lowest_risky_case : Rules → ℕ → ℕ → Storey → List Member → ℕ
+lowest_risky_case rules form k s ms = first 0 (λ n. n) (λ l. pick (case_risky rules k l (shear_of l s) ms) (l + 1) 0) (case_count form)
 
 -- what a storey is found to be in case l
 unfoldable pub storey_finding : Rules → ℕ → ℕ → ℕ → List Member → StoreyFinding

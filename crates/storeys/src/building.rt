@@ -3,7 +3,7 @@ ghost use Rattle.std.specs.Prelude.{◌≡◌};
 ghost use Rattle.records.specs.Refusals.{numbered};
 ghost use Rattle.checks.specs.RowChecks.{records_of};
 ghost use Rattle.storeys.specs.Storey.{published_rules};
-ghost use Rattle.storeys.specs.Building.{tilted, Answers};
+ghost use Rattle.storeys.specs.Building.{tilted, returned_building, building_returned};
 
 use crate::BuildingFinding;
 use crate::good_survey::GoodSurvey;
@@ -23,16 +23,16 @@ pub fn is_tilted(h: &Header) -> bool
 }
 
 // The call on a building: its header, its storeys, and the members of all of them in survey order.
-#[tactic(auto, using(crate::proofs::FirstRisky::refused))]
+#[tactic(auto, using(crate::proofs::Answered::refused))]
 pub fn judge_building(survey: &Survey) -> Result<BuildingFinding, Refusal>
-    ensures { Answers published_rules (records_of survey.now) (numbered result) }
+    ensures { returned_building (numbered result) ≡ building_returned published_rules (records_of survey.now) }
 {
     let good = GoodSurvey::try_from(*survey)?;
-    let place = good.first_risky();
+    let first = good.first_risky();
     let tilted = is_tilted(&survey.header);
     Ok(BuildingFinding {
         tilted,
-        risky: place.is_some() | tilted,
-        place,
+        risky: first.is_some() | tilted,
+        first,
     })
 }

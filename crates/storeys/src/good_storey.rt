@@ -24,7 +24,8 @@ pub struct GoodStorey<'a> {
 }
 
 impl GoodStorey<'_> {
-    ghost use Rattle.storeys.specs.Storey.{published_rules, finding_in, storey_risky, judged_by};
+    ghost use Rattle.storeys.specs.Storey.{published_rules, finding_in, lowest_risky_case, judged_by};
+    ghost use Rattle.storeys.specs.Place.{case_numbered};
     ghost use Rattle.storeys.specs.Tally.{tally_of};
 
     // The totals of the members in case c, counted from 0, judged with the 0.40 condition.
@@ -54,11 +55,12 @@ impl GoodStorey<'_> {
         StoreyFinding::of(shear, met, &self.tally(met, c))
     }
 
-    // Risky in some case of the form.
-    pub fn is_risky(&self) -> bool
-        ensures { result ≡ storey_risky published_rules (form_number self.now.form) self.now.level.hundredths self.now.storey.now self.now.members.now }
+    // The lowest numbered Risky case of the form, where there is one.
+    pub fn lowest_risky_case(&self) -> Option<u64>
+        ensures { result ≡ case_numbered (lowest_risky_case published_rules (form_number self.now.form) self.now.level.hundredths self.now.storey.now self.now.members.now) }
     {
-        (0..self.form.case_count()).any(|c| self.finding(c).risky)
+        let c = (0..self.form.case_count()).position(|c| self.finding(c).risky)?;
+        Some(c as u64 + 1)
     }
 
     // The findings in the cases of the form.

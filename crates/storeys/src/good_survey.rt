@@ -5,9 +5,12 @@ ghost use Rattle.records.specs.Refusals.{refusal_number};
 ghost use Rattle.checks.specs.Rows.{records_fault};
 ghost use Rattle.checks.specs.RowChecks.{records_of};
 ghost use Rattle.checks.specs.RowsInTurn.{storeys_left, members_left};
-ghost use Rattle.storeys.specs.FirstRisky.{FirstRisky};
+ghost use Rattle.storeys.specs.Storey.{published_rules};
+ghost use Rattle.storeys.specs.Building.{first_risky, first_risky_case};
+ghost use Rattle.storeys.specs.Place.{place_of, case_number_of};
 ghost use Rattle.storeys.specs.GoodStoreys.{rows_left, form_of, level_of};
 
+use crate::RiskyStorey;
 use crate::good_storeys::GoodStoreys;
 use checks::Survey;
 use members::knowledge::Knowledge;
@@ -59,11 +62,17 @@ impl GoodSurvey<'_> {
         }
     }
 
-    // The place of the first Risky storey, counted from 1, where there is one.
-    pub fn first_risky(&self) -> Option<u64>
-        ensures { FirstRisky (records_of self.now.survey) result }
+    // The first Risky storey in survey order, where there is one.
+    pub fn first_risky(&self) -> Option<RiskyStorey>
+        ensures place { place_of result ≡ first_risky published_rules (records_of self.now.survey) }
+        ensures case_number { case_number_of result ≡ first_risky_case published_rules (records_of self.now.survey) }
     {
-        let i = self.storeys().position(|s| s.is_risky())?;
-        Some(i as u64 + 1)
+        for (i, storey) in self.storeys().enumerate() {
+            if let Some(case) = storey.lowest_risky_case() {
+                let place = i as u64 + 1;
+                return Some(RiskyStorey { place, case });
+            }
+        }
+        None
     }
 }

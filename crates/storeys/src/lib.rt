@@ -3,7 +3,6 @@
 #![tactic(auto)]
 
 ghost use Rattle.std.specs.Prelude.{◌<◌};
-ghost use Rattle.std.specs.Option.{ForSome};
 
 pub mod building;
 pub mod good_storey;
@@ -21,13 +20,22 @@ pub struct StoreyJudgment {
     pub findings: ByForm<StoreyFinding>,
 }
 
+// A Risky storey of a survey.
+#[derive(Clone, Copy)]
+pub struct RiskyStorey {
+    // its place in survey order, counted from 1
+    pub place: u64,
+    // its lowest numbered Risky case, 1 in the old form
+    pub case: u64,
+    pub ghost counted: { (0 < place) × (0 < case) },
+}
+
 // What a building is found to be.
 #[derive(Clone, Copy)]
 pub struct BuildingFinding {
     // the larger tilt is above 25,000
     pub tilted: bool,
     pub risky: bool,
-    // the place of the first Risky storey, counted from 1, where there is one
-    pub place: Option<u64>,
-    pub ghost counted: { ForSome place (λ n. 0 < n) },
+    // the first Risky storey, where there is one
+    pub first: Option<RiskyStorey>,
 }

@@ -141,10 +141,8 @@ impl Bench {
     fn check_judged(&self) {
         let s = &self.survey;
         let found = independent::judge_building(&s.header, &s.storeys, &s.members).expect("accepted");
-        let (place, places) = (self.out[2], found.risky_places);
         assert_eq!(self.returned, 0, "accepted");
-        assert_eq!(self.out[..2], [found.tilt_above.into(), found.risky.into()]);
-        assert!(places.contains(&place) || (place == 0 && places.is_empty()), "place {place} of {places:?}");
+        assert_eq!(self.out[..4], [found.tilt_above.into(), found.risky.into(), found.place, found.case]);
     }
 
     fn check_report(&self) {

@@ -163,6 +163,7 @@ static void judge_building(const uint64_t *header, size_t storey_rows, size_t me
         out[LLUNARETH_BUILDING_TILTED],
         out[LLUNARETH_BUILDING_RISKY],
         out[LLUNARETH_BUILDING_PLACE],
+        out[LLUNARETH_BUILDING_CASE],
     };
     print("building", found, COUNT(found));
 }

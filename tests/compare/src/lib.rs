@@ -303,10 +303,8 @@ pub fn same_building(survey: &Survey) -> Option<Refusal> {
         }
         Ok(expected) => {
             let found = proved.expect("accepted by the independent program");
-            assert_eq!((found.tilted, found.risky), (expected.tilt_above, expected.risky), "{survey:?}");
-            let places = expected.risky_places;
-            let named = if places.is_empty() { found.place == 0 } else { places.contains(&found.place) };
-            assert!(named, "place {} of {places:?}: {survey:?}", found.place);
+            let said = (found.tilted, found.risky, found.place, found.case);
+            assert_eq!(said, (expected.tilt_above, expected.risky, expected.place, expected.case), "{survey:?}");
             None
         }
     }

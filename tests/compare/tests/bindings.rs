@@ -104,28 +104,29 @@ fn by_input(path: &Path) -> (String, Option<i32>) {
     outcome(verdict().stdin(File::open(path).expect("a file")).output().expect("verdict starts"))
 }
 
-/// The lines that may be printed for a file, one for each Risky storey, and the exit status.
-fn expected(file: &[u8]) -> (Vec<String>, i32) {
+/// The line that is printed for a file, and the exit status.
+fn expected(file: &[u8]) -> (String, i32) {
     if let Some(told) = refusal_told(&independent::determine(file)) {
         let line = if told.line == 0 { String::new() } else { format!(" at line {}", told.line) };
-        return (vec![format!("refused: {}{line}\n", told.number)], 1);
+        return (format!("refused: {}{line}\n", told.number), 1);
     }
     let survey = independent::read(file, 10, 320).expect("accepted");
     let found = independent::judge_building(&survey.header, &survey.storeys, &survey.members).expect("accepted");
-    let number = |place: &u64| survey.storeys[*place as usize - 1].number;
-    let lines = match (found.risky, &found.risky_places[..]) {
-        (false, _) => vec!["not Risky\n".into()],
-        (true, []) => vec!["Risky: tilt\n".into()],
-        (true, places) => places.iter().map(|place| format!("Risky: storey {}\n", number(place))).collect(),
+    let number = |place: u64| survey.storeys[place as usize - 1].number;
+    let line = match (found.risky, found.place) {
+        (false, _) => "not Risky\n".into(),
+        (true, 0) => "Risky: tilt\n".into(),
+        (true, place) if survey.header.form == 1 => format!("Risky: storey {}\n", number(place)),
+        (true, place) => format!("Risky: storey {}, case {}\n", number(place), found.case),
     };
-    (lines, 0)
+    (line, 0)
 }
 
-/// Panics unless `verdict` prints a line that may be, with its exit status, by name and by standard input; the line.
+/// Panics unless `verdict` prints its line, with its exit status, by name and by standard input; the line.
 fn same_verdict(path: &Path) -> String {
-    let (lines, status) = expected(&fs::read(path).expect("a file"));
+    let (line, status) = expected(&fs::read(path).expect("a file"));
     let (printed, code) = by_name(path);
-    assert!(lines.contains(&printed) && code == Some(status), "{}: {printed}{code:?} for {lines:?}", path.display());
+    assert_eq!((&printed, code), (&line, Some(status)), "{}", path.display());
     assert_eq!(by_input(path), (printed.clone(), code), "{} by standard input", path.display());
     printed
 }
@@ -282,7 +283,7 @@ fn member_row_lines(numbers: &[u64]) -> String {
     line("M", once) + &cases + &line("words", numbers)
 }
 
-/// What calls.c prints of an accepted survey. The place is any Risky storey's, so it is taken over from the proved call.
+/// What calls.c prints of an accepted survey.
 fn survey_lines(survey: &Survey) -> String {
     let Survey { header, storeys, members } = survey;
     let mut lines = line("read", &[&[0, 0], &header_numbers(header)[..]].concat());
@@ -291,8 +292,7 @@ fn survey_lines(survey: &Survey) -> String {
     lines += "faults 0 0 0 3 3 3\nlacking 0 3\n";
     lines.extend(by_storey(survey).iter().map(|(s, own)| storey_lines(header.knowledge, header.form, s, own)));
     let found = independent::judge_building(header, storeys, members).expect("accepted");
-    let place = judge_building(header, storeys, &member_rows(members).expect("good members")).expect("accepted").place;
-    lines += &line("building", &[0, found.tilt_above.into(), found.risky.into(), place]);
+    lines += &line("building", &[0, found.tilt_above.into(), found.risky.into(), found.place, found.case]);
     lines += "short 255 255 255 255 255 255 0\n";
     let sheet = independent::report(header, storeys, members, usize::MAX).expect("accepted");
     lines += &(line("report", &[0, sheet.len() as u64]) + std::str::from_utf8(&sheet).expect("text"));

@@ -120,7 +120,7 @@ fn j_the_larger_tilt() {
         let h = Header { knowledge: 100, height: 9_000, storeys_above_ground: 3, tilt_1, tilt_2, storey_count: 1, form };
         let s = Storey { number: 1, shears, count: 1 };
         let b = judge_building(&h, &[s], &member_rows(&[m]).unwrap()).expect("a good building");
-        assert_eq!(b.place, 0);
+        assert_eq!((b.place, b.case), (0, 0));
         (b.tilted, b.risky)
     };
     let m = loaded(1, 0, 0, 0, 0);

@@ -170,7 +170,7 @@ fn a_building_judged_and_refused() {
         assert_eq!(returned, number, "{survey:?}");
         let mut out = marks(5);
         if raw::judge_building(&header, &storeys, &rows, &mut out) == 0 {
-            assert_eq!(out, [&[0, 1, 1], &marks(5)[3..]].concat());
+            assert_eq!(out, [&[0, 1, 1, 1], &marks(5)[4..]].concat());
         }
     }
 }

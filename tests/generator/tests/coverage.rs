@@ -577,6 +577,20 @@ fn expect_kinds(t: &mut Tally) {
     }
 }
 
+/// The lowest case, from 1, in which each storey is Risky.
+fn lowest_risky_cases(survey: &Survey) -> Vec<Option<u64>> {
+    let h = &survey.header;
+    let mut rest = &survey.members[..];
+    let lowest = |s: &Storey| {
+        let (own, later) = rest.split_at(s.count as usize);
+        rest = later;
+        let found = judge_storey(h.knowledge, h.form, s, own).unwrap();
+        let at = found.cases.iter().position(|case| case.risky)?;
+        Some(at as u64 + 1)
+    };
+    survey.storeys.iter().map(lowest).collect()
+}
+
 fn tally_building(t: &mut Tally, survey: &Survey) {
     let Survey {
         header,
@@ -586,15 +600,10 @@ fn tally_building(t: &mut Tally, survey: &Survey) {
     t.around("tilt 1", header.tilt_1 as i128, 25_000);
     t.around("tilt 2", header.tilt_2 as i128, 25_000);
     let building = judge_building(header, storeys, members).unwrap();
-    t.note(
-        "Risky by tilt alone",
-        building.risky && building.risky_places.is_empty(),
-    );
-    t.note("several Risky storeys", building.risky_places.len() > 1);
-    t.note(
-        "only a later storey Risky",
-        building.risky_places.first() > Some(&1),
-    );
+    t.note("Risky by tilt alone", building.risky && building.place == 0);
+    let risky = lowest_risky_cases(survey).into_iter().flatten();
+    t.note("several Risky storeys", risky.count() > 1);
+    t.note("only a later storey Risky", building.place > 1);
     t.note("not Risky", !building.risky);
     t.note("10 storeys", storeys.len() == 10);
     let most = members_most(header.form, 1) as u64;
@@ -650,12 +659,25 @@ fn edges_come_up_in_each_case() {
     of_case.iter().for_each(|t| t.all_hit(5));
 }
 
+/// The case that the verdict names, and those of the storeys after it.
+fn tally_named_case(t: &mut Tally, survey: &Survey) {
+    let building = judge_building(&survey.header, &survey.storeys, &survey.members).unwrap();
+    let lowest = lowest_risky_cases(survey);
+    let mut later = lowest[building.place as usize..].iter().flatten();
+    t.note("named in a case above 1", building.case > 1);
+    t.note(
+        "a later storey Risky in a lower case",
+        later.any(|case| *case < building.case),
+    );
+}
+
 /// What only a survey in cases has.
 #[test]
 fn differences_between_cases_come_up() {
     let mut t = Tally::default();
     for seed in 0..3_000 {
         let survey = valid_survey_of(&mut Rng::new(seed), CASE_FORM);
+        tally_named_case(&mut t, &survey);
         let k = survey.header.knowledge;
         for (s, own) in storeys_of(&survey) {
             let f = judge_storey(k, CASE_FORM, s, own).unwrap();

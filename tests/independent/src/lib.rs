@@ -1,5 +1,5 @@
 //! Risk verdict for low-rise reinforced concrete: a second program after
-//! document 01, with requests N1, N2, N3, N6, N8 and N10 of document 02, for
+//! document 01, with requests N1, N2, N3, N6, N7, N8 and N10 of document 02, for
 //! comparison.
 //!
 //! NOTES.md lists the points that the papers leave open and what the requests

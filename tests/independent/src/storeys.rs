@@ -52,14 +52,15 @@ pub struct StoreyCaseFinding {
     pub risky: bool,
 }
 
-#[derive(Clone, Debug, PartialEq, Eq)]
+#[derive(Clone, Copy, Debug, PartialEq, Eq)]
 pub struct BuildingFinding {
     /// The larger tilt exceeds 25,000.
     pub tilt_above: bool,
     pub risky: bool,
-    /// The places, from 1, of all Risky storeys: the verdict names any of
-    /// them, or 0 where there is none.
-    pub risky_places: Vec<u64>,
+    /// The place, from 1, of the first Risky storey; 0 where there is none.
+    pub place: u64,
+    /// Its lowest numbered Risky case; 0 where there is none.
+    pub case: u64,
 }
 
 /// A storey, given k, the form, its record and its members.
@@ -150,17 +151,27 @@ fn find_storey_case(
 /// The building from its storeys' findings.
 pub(crate) fn find_building(h: &Header, storeys: &[StoreyFinding]) -> BuildingFinding {
     let tilt_above = h.tilt_1.max(h.tilt_2) > TILT_MOST;
-    let mut risky_places = Vec::new();
-    for (i, s) in storeys.iter().enumerate() {
-        if s.risky {
-            risky_places.push(i as u64 + 1);
-        }
-    }
+    let some_storey_risky = storeys.iter().any(|s| s.risky);
+    let (place, case) = first_risky(storeys);
     BuildingFinding {
         tilt_above,
-        risky: tilt_above || !risky_places.is_empty(),
-        risky_places,
+        risky: tilt_above || some_storey_risky,
+        place,
+        case,
     }
+}
+
+/// The first Risky storey's place and its lowest Risky case, both from 1; 0 and
+/// 0 where no storey is Risky.
+fn first_risky(storeys: &[StoreyFinding]) -> (u64, u64) {
+    for (i, s) in storeys.iter().enumerate() {
+        for (j, case) in s.cases.iter().enumerate() {
+            if case.risky {
+                return (i as u64 + 1, j as u64 + 1);
+            }
+        }
+    }
+    (0, 0)
 }
 
 /// Σ. N_D is in no case, so this is the same in all.

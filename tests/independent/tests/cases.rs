@@ -64,7 +64,7 @@ fn the_example_in_calls() {
 
     let b = judge_building(&header(), &[storey()], &members()).unwrap();
     assert!(b.risky && !b.tilt_above);
-    assert_eq!(b.risky_places, [1]);
+    assert_eq!((b.place, b.case), (1, 1));
 
     let [m, _] = members();
     let found = judge_member(100, CASE_FORM, [false; 4], &m).unwrap();
@@ -177,10 +177,15 @@ fn findings_by_case(survey: &Survey, buildings: &mut [u64; 2], storeys: &mut [u6
     let alone = [0, 1, 2, 3].map(|i| building(&case_alone(survey, i)));
     assert_eq!(whole.risky, alone.iter().any(|b| b.risky));
     assert!(alone.iter().all(|b| b.tilt_above == whole.tilt_above));
-    let mut places: Vec<u64> = alone.iter().flat_map(|b| b.risky_places.clone()).collect();
-    places.sort();
-    places.dedup();
-    assert_eq!(whole.risky_places, places);
+    // The first place of all cases, and the first case that has it.
+    let places = alone.iter().map(|b| b.place).filter(|&place| place > 0);
+    assert_eq!(whole.place, places.min().unwrap_or(0));
+    let case = (1..).zip(&alone).find(|(_, b)| b.place == whole.place);
+    let case = if whole.place == 0 { 0 } else { case.unwrap().0 };
+    assert_eq!(whole.case, case);
+    for b in &alone {
+        assert_eq!(b.case, (b.place > 0) as u64);
+    }
     buildings[whole.risky as usize] += 1;
 }
 
@@ -298,7 +303,7 @@ fn tilt_once() {
         };
         let b = judge_building(&h, &[s], &members).unwrap();
         assert_eq!((b.tilt_above, b.risky), (above, above));
-        assert!(b.risky_places.is_empty());
+        assert_eq!((b.place, b.case), (0, 0));
         // No case is Risky by tilt.
         let text = String::from_utf8(report(&h, &[s], &members, usize::MAX).unwrap()).unwrap();
         let storey_lines: Vec<&str> = text.lines().filter(|l| l.starts_with('S')).collect();

@@ -42,7 +42,7 @@ fn worked_example_in_calls() {
     assert!(f.risky && !f.meets_wall_share);
     let b = judge_building(&header(), &[storey()], &members).unwrap();
     assert!(b.risky && !b.tilt_above);
-    assert_eq!(b.risky_places, [1]);
+    assert_eq!((b.place, b.case), (1, 1));
     let m = judge_member(100, false, &member()).unwrap();
     assert_eq!((m.class, m.n_d, m.n, m.m), (2, 35_000, 35_000, 300_000));
 }
@@ -246,7 +246,7 @@ fn edge_j() {
         };
         let f = judge_building(&h, &[storey()], &members).unwrap();
         assert_eq!(f.tilt_above, f.risky);
-        assert!(f.risky_places.is_empty());
+        assert_eq!((f.place, f.case), (0, 0));
         f.risky
     };
     assert!(!with_tilts(25_000, 25_000));
@@ -614,7 +614,7 @@ fn m_test_dropped() {
 }
 
 #[test]
-fn every_risky_place() {
+fn two_risky_storeys_of_three() {
     let h = Header {
         storey_count: 3,
         ..header()
@@ -632,7 +632,7 @@ fn every_risky_place() {
         second_member(),
     ];
     let f = judge_building(&h, &storeys, &members).unwrap();
-    assert_eq!(f.risky_places, [1, 3]);
+    assert_eq!((f.place, f.case), (1, 1));
     let sheet = report(&h, &storeys, &members, usize::MAX).unwrap();
     let tags: Vec<u8> = sheet
         .split(|&b| b == b'\n')
@@ -664,7 +664,7 @@ fn the_largest_p_is_judged_and_printed() {
     assert!(f.risky && !f.meets_wall_share);
     let b = judge_building(&header(), &[s], &members).unwrap();
     assert!(b.risky && !b.tilt_above);
-    assert_eq!(b.risky_places, [1]);
+    assert_eq!((b.place, b.case), (1, 1));
 
     let mut expected = String::new();
     for number in 1..=200 {

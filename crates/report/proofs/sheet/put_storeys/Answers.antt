@@ -4,10 +4,10 @@ use Rattle.records.proofs.Below.{any_none}
 use Rattle.checks.specs.RowChecks.{records_of}
 use Rattle.checks.specs.RowsInTurn.{storeys_left, members_left}
 use Rattle.storeys.specs.Building.{some_risky}
+use Rattle.storeys.specs.Storey.{published_rules}
 use Rattle.storeys.specs.FirstRisky.{risky_in}
 use Rattle.storeys.specs.GoodStoreys.{rows_left, form_of, level_of}
-use Rattle.storeys.proofs.GoodStoreys.{IsGiven, good-turn, good-all}
-use Rattle.storeys.proofs.FirstRisky.{given-risky}
+use Rattle.storeys.proofs.GoodStoreys.{IsGiven, good-turn, good-all, given-risky}
 use Rattle.columns.proofs.Written.{Remaining, all-left, part-put, none-left, first-fits}
 use Rattle.report.specs.Sheet.{storey_lines, storeys_lines}
 use Rattle.report.specs.Printing.{sheet_storeys}
@@ -59,7 +59,7 @@ loop-storey-preserved c =
     (record {
       goes = tt;
       ends = tt;
-      risky = any-next (risky_in a) _ _ _ c.loop-storey.invariant.risky here;
+      risky = any-next (risky_in published_rules a) _ _ _ c.loop-storey.invariant.risky here;
       left = part-put _ _ _ _ c.loop-storey.writer _ (left at) c.put_storey-risky.ensures.written;
     })
 
