@@ -166,7 +166,7 @@ pub demand3-by : (walls : WallCondition) (rules : Rules) → orderly rules ≡ t
 demand3-by walls rules e falls a b r q ra rb pairs worse = carried walls rules (rules-ordered rules e) falls a b r q ra rb pairs worse
 
 -- the published rules are in order
-published-orderly : orderly published_rules ≡ true
+pub published-orderly : orderly published_rules ≡ true
 published-orderly = rw published-ordered
 
 -- DEMAND 3

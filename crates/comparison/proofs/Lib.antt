@@ -7,6 +7,8 @@ pub mod Damage
 pub mod Storeys
 pub mod Accepted
 pub mod Demand3
+pub mod WallsToB
 pub mod Example
 pub mod ExampleCases
 pub mod Needed
+pub mod PassingWalls

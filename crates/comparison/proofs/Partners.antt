@@ -24,7 +24,7 @@ module _ (walls : WallCondition) (k : ℕ) (m n : MemberCase) (s : AtLeastAsSeve
   same-wall : is_wall m ≡ is_wall n
   same-wall = rw (s.long, s.short)
 
-  worse : Worse m n
+  pub worse : Worse m n
   worse = search arith
 
   not-to-c : n.strengthened ≡ 1 → class_of k n ≡ ColumnC → class_of k m ≡ ColumnC

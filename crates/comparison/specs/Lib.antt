@@ -1,4 +1,5 @@
 pub mod Pairing
 pub mod Orderly
 pub mod Demand3
+pub mod WallsToB
 pub mod Needed

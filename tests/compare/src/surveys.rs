@@ -14,7 +14,7 @@ pub fn all() -> Vec<(&'static str, Vec<u8>)> {
     accepted.into_iter().chain(refused()).collect()
 }
 
-fn accepted() -> [(&'static str, Survey); 18] {
+fn accepted() -> [(&'static str, Survey); 20] {
     let first_case = |survey: Survey| survey_in_case(0, &survey);
     [
         ("plain-block", old_form::plain_block()),
@@ -35,6 +35,8 @@ fn accepted() -> [(&'static str, Survey); 18] {
         ("strengthened-wall-not-detailed", old_form::strengthened_wall(0)),
         ("strengthened-wall-detailed", old_form::strengthened_wall(1)),
         ("cases-strengthened-wall", four_cases::strengthened_wall()),
+        ("core-walls-class-a", old_form::core_walls(7_000)),
+        ("core-walls-class-b", old_form::core_walls(9_000)),
     ]
 }
 

@@ -1,9 +1,9 @@
-//! Demand 3 run through the proved calls, in both forms: surveys that meet all its conditions, and for eight of them a pair that breaks only that
-//! one, in the old form and in one of four cases.
+//! Demand 3, widened by N11, run through the proved calls, in both forms: surveys that meet all its conditions, and for eight of them a pair that
+//! breaks only that one, in the old form and in one of four cases; walls that pass from class A to B, at the bound and past it.
 use compare::{judge_building, judge_member, judge_storey, member_numbers, member_rows, plain_column};
 use generator::{is_wall, one_case, valid_survey, Rng};
 use independent::lines::{cases_of, CASES, CASE_FORM, OLD_FORM};
-use independent::{Header, LoadCase, Member, Storey, Survey};
+use independent::{Header, LoadCase, Member, MemberFinding, Storey, Survey};
 
 const SEED: u64 = 20_260_117;
 const MOST: u64 = 9_999_999;
@@ -42,6 +42,13 @@ fn less(rng: &mut Rng, v: u64, least: u64) -> u64 {
     if rng.chance(50) { v } else { v - rng.below(v - least + 1) }
 }
 
+/// Whether a wall with boundary zone passes from class A to B in a case, with n at most 0.2 in both (N11).
+fn passes_to_b(k: u64, form: u64, m: &Member, n: &Member) -> Vec<bool> {
+    let found = |m: &Member| independent::judge_member(k, form, [false; CASES], m).expect("a good member");
+    let passes = |(a, b): (MemberFinding, MemberFinding)| (a.class, b.class) == (4, 5) && m.boundary_zone == 1 && a.n.max(b.n) <= 20_000;
+    found(m).into_iter().zip(found(n)).map(passes).collect()
+}
+
 /// A case that is nowhere better.
 fn worse_case(rng: &mut Rng, m: &Member, c: &LoadCase) -> LoadCase {
     LoadCase {
@@ -66,8 +73,9 @@ fn worse(rng: &mut Rng, k: u64, form: u64, m: &Member) -> Member {
     for i in 0..cases_of(form) {
         n.cases[i] = worse_case(rng, m, &m.cases[i]);
     }
-    let allowed = |(a, b): (u8, u8)| !(is_wall(m) && a != b) && !(m.strengthened == 1 && b == 3 && a != 3);
-    if !classes(k, form, m).into_iter().zip(classes(k, form, &n)).all(allowed) {
+    let to_b = passes_to_b(k, form, m, &n);
+    let allowed = |(i, (a, b)): (usize, (u8, u8))| !(is_wall(m) && a != b && !to_b[i]) && !(m.strengthened == 1 && b == 3 && a != 3);
+    if !classes(k, form, m).into_iter().zip(classes(k, form, &n)).enumerate().all(allowed) {
         n.a_sh = m.a_sh;
         for (n, m) in n.cases.iter_mut().zip(m.cases) {
             (n.v_e, n.v_r) = (m.v_e, m.v_r);
@@ -91,7 +99,7 @@ fn kept(before: &[bool], after: &[bool]) -> bool {
 #[test]
 fn a_worse_survey_in_another_order_never_clears() {
     let mut rng = Rng::new(SEED);
-    let (mut risky, mut a_to_c, mut tension, mut walls, mut damaged, mut halved) = ([0; 2], 0, 0, 0, 0, 0);
+    let (mut risky, mut a_to_c, mut to_b, mut tension, mut walls, mut damaged, mut halved) = ([0; 2], 0, 0, 0, 0, 0, 0);
     for _ in 0..1_500 {
         let first = valid_survey(&mut rng);
         let (k, form) = (first.header.knowledge, first.header.form);
@@ -131,6 +139,7 @@ fn a_worse_survey_in_another_order_never_clears() {
                 let (m, n) = (&one[i].members[j], &two[at].members[n_at]);
                 assert!(kept(&overs(k, form, &a_met, m), &overs(k, form, &b_met, n)), "a member was cleared: {m:?} {n:?}");
                 a_to_c += u32::from(classes(k, form, m).into_iter().zip(classes(k, form, n)).any(|pair| pair == (1, 3)));
+                to_b += u32::from(passes_to_b(k, form, m, n).contains(&true));
                 tension += u32::from(m.cases.iter().any(|c| c.n_k < 0));
                 walls += u32::from(is_wall(m));
                 damaged += u32::from(m.damage_kind > 0);
@@ -141,8 +150,8 @@ fn a_worse_survey_in_another_order_never_clears() {
     }
     assert!(a_to_c > 0, "columns go from A to C");
     let [old, cases] = risky;
-    let counts = [old, cases, tension, walls, damaged, halved];
-    assert!(counts.iter().all(|&n| n > 100), "Risky in the old form and in cases, in tension, walls, damaged, halved: {counts:?}");
+    let counts = [old, cases, tension, walls, to_b, damaged, halved];
+    assert!(counts.iter().all(|&n| n > 100), "Risky in the old form and in cases, in tension, walls, that pass to B, damaged, halved: {counts:?}");
 }
 
 /// A building of the old form, of one storey with one member.
@@ -221,4 +230,62 @@ fn eight_conditions_cannot_be_left_out() {
         })
     };
     cleared(&marked(0), &marked(1));
+}
+
+/// A wall with boundary zone at v 90,000; n is 2 x 10^9 / A_c and m 10 x M_e. Of class A with V_r 901, of class B with 900.
+fn zone_wall(v_r: u64, change: impl Fn(&mut Member, &mut LoadCase)) -> Survey {
+    single(100, 1_000, move |m, c| {
+        wall(m, c);
+        (m.boundary_zone, c.n_k, c.m_p, c.v, c.v_r, c.drift) = (1, 2_000, 10_000, 1_000, v_r, 7_500);
+        change(m, c);
+    })
+}
+
+/// At 0.2 the limits of m are the same; one step above, that of class A is 499,980 and that of class B 500,000.
+#[test]
+fn a_wall_that_passes_to_b_above_the_bound() {
+    let above = |v_r| zone_wall(v_r, |m, c| (m.a_c, c.m_e) = (99_996, 49_999));
+    cleared(&above(901), &above(900));
+    let plain = |v_r| zone_wall(v_r, |m, c| (m.boundary_zone, m.a_c, c.m_e) = (0, 200_000, 49_000));
+    cleared(&plain(901), &plain(900));
+    let within = |v_r| zone_wall(v_r, |m, c| (m.a_c, c.m_e) = (100_000, 50_001));
+    let [a, b] = [within(901), within(900)].map(|s| found(&s.members[0]));
+    assert_eq!([(a.class, a.m_limit, a.over), (b.class, b.m_limit, b.over)], [(4, 500_000, true), (5, 500_000, true)]);
+}
+
+/// What is found of a member of the old form with k 100.
+fn found(m: &Member) -> llunareth::MemberFinding {
+    judge_member(100, OLD_FORM, [false; CASES], &member_numbers(m).unwrap()).expect("a good member")[0]
+}
+
+/// A wall of class A with boundary zone and n at most 0.2, at rows of stress and between them, with any marks and factor; m and rotation about its limits.
+fn passing_wall(rng: &mut Rng) -> Member {
+    let n_k = rng.pick(&[-1_000, 0, 10_000, 15_000, 19_999, 20_000]);
+    let v_e = rng.pick(&[60_000, 89_999, 90_000, 90_001, 110_000, 129_999, 130_000, 150_000]);
+    let load = LoadCase { n_k, m_p: 100_000, v_e, v_r: 200_000, v: 1, drift: 7_500, ..LoadCase::default() };
+    let (strengthened, annex_e, factor) = (rng.below(2), rng.below(2), rng.pick(&[100, 75, 33, 0]));
+    let sides = Member { long_side: 500, short_side: 100, f_ctm: 1_000, d: 10_000, h_w: 1_000, boundary_zone: 1, ..plain_column() };
+    let mut wall = Member { strengthened, annex_e, factor, cases: one_case(load), ..sides };
+    let limits = found(&wall);
+    wall.cases[0].m_e = (limits.m_limit + rng.pick(&[0, 1, 2, 50_000])).saturating_sub(1);
+    wall.cases[0].rotation = (limits.rotation_limit + rng.pick(&[0, 1, 2, 5_000])).saturating_sub(1);
+    wall
+}
+
+/// What is over in class A is so in class B, by more V_e or less V_r.
+#[test]
+fn a_wall_that_passes_to_b_within_the_bound_stays_over() {
+    let mut rng = Rng::new(SEED);
+    let (mut by_m, mut by_rotation) = (0, 0);
+    for _ in 0..20_000 {
+        let wall = passing_wall(&mut rng);
+        let (mut other, case) = (wall, wall.cases[0]);
+        (other.cases[0].v_e, other.cases[0].v_r) = rng.pick(&[(case.v_r, case.v_r), (case.v_e, case.v_e), (case.v_r + 1, case.v_e)]);
+        let (a, b) = (found(&wall), found(&other));
+        assert_eq!((a.class, b.class), (4, 5), "{wall:?}");
+        assert!(b.m_limit <= a.m_limit && b.rotation_limit <= a.rotation_limit && (!a.over || b.over), "{wall:?} {other:?}");
+        by_m += u32::from(a.over_m);
+        by_rotation += u32::from(a.over_rotation);
+    }
+    assert!(by_m > 1_000 && by_rotation > 1_000, "over by m {by_m}, by the rotation {by_rotation}");
 }

@@ -213,6 +213,18 @@ fn a_strengthened_wall_halved_where_it_is_of_class_b() {
     assert_eq!(risky, [1, 1, 0, 0]);
 }
 
+/// Above 0.2 more shear in a wall can clear a building: class B has the higher limit of m.
+#[test]
+fn core_walls_cleared_by_more_shear() {
+    let [less, more] = ["core-walls-class-a", "core-walls-class-b"].map(named);
+    let mut loaded = survey_of(&less);
+    loaded.members.iter_mut().filter(|m| m.long_side == 3_000).for_each(|m| m.cases[0].v_e = 9_000);
+    assert_eq!(loaded, survey_of(&more), "alike but for the walls' V_e");
+    assert_eq!(wall_lines(&less), [(4, (440_000, 21_333), 1); 2]);
+    assert_eq!(wall_lines(&more), [(5, (500_000, 20_000), 0); 2]);
+    assert_eq!((printed(&less, 'B'), printed(&more, 'B')), (vec![vec![0, 1]], vec![vec![0, 0]]));
+}
+
 /// In each storey and case: the 0.40 condition; of each wall: boundary zone, m past its limit, over.
 fn walls_of(sample: &Sample) -> Vec<(bool, Vec<(u64, bool, u64)>)> {
     let header = survey_of(sample).header;

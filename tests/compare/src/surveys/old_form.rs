@@ -169,6 +169,18 @@ pub fn strengthened_wall(annex_e: u64) -> Survey {
     one_storey(90, 2, vec![wall, column, column, wall, column, column])
 }
 
+/// Two walls of a core, with boundary zone and an axial ratio of 0.23, between four columns.
+pub fn core_walls(v_e: u64) -> Survey {
+    let core = Member { long_side: 3_000, a_c: 750_000, d: 2_850, f_cm: 250, f_ctm: 175, boundary_zone: 1, ..wall() };
+    let wall = loaded(core, 41_000, LoadCase { n_k: 43_125, m_e: 76_140, m_p: 18_000, v_e, v_r: 9_500, v: 7_600, rotation: 7_900, drift: 8_100 });
+    let column = loaded(
+        column_beside_walls(),
+        5_200,
+        LoadCase { n_k: 5_600, m_e: 2_500, m_p: 1_800, v_e: 1_000, v_r: 1_700, v: 1_400, rotation: 7_800, drift: 8_100 },
+    );
+    one_storey(90, 3, vec![wall, column, column, wall, column, column])
+}
+
 /// One with more shear demand than capacity, one lower than twice its length.
 pub fn wall_b() -> Survey {
     let wall = Member { h_w: 6_000, ..wall() };

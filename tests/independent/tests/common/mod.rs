@@ -4,6 +4,7 @@
 pub mod cases;
 pub mod draw;
 pub mod old;
+pub mod pairs;
 
 use independent::Refusal;
 use old::{Header, Member, Storey};
