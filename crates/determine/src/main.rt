@@ -5,13 +5,17 @@ ghost use Rattle.std.specs.Prelude.{◌≡◌};
 ghost use Rattle.determine.specs.Transfer.{moved_of, ReadsAll, WritesAll};
 
 use determination::determine;
-use std::io::{ErrorKind, Read, Write};
+use std::io::{ErrorKind, IsTerminal, Read, Write};
 use std::{fmt, io};
 
 // One byte more than the longest input, so that a longer one shows.
 const INPUT_ROOM: usize = determination::INPUT_MOST + 1;
 
-// What the program tells on standard error.
+// What it tells on standard error where a person would have to type the survey.
+const AWAITED: &str =
+    "determine: a survey is awaited on standard input; for a file: determine < FILE";
+
+// A failure that the program tells on standard error.
 #[derive(Drop)]
 enum Failure {
     Input,
@@ -64,8 +68,16 @@ fn write_all<W: Write>(output: &mut W, bytes: &[u8]) -> io::Result<()>
     Ok(())
 }
 
+// Where a person types at a terminal, standard error says what is waited for.
+fn tell_what_is_awaited(rt: &HostRuntime) {
+    if rt.stdin().is_terminal() {
+        let _ = eprintln!(rt; "{AWAITED}");
+    }
+}
+
 // Where standard input cannot be read to its end, nothing is judged: standard output stays empty.
 fn run(rt: &HostRuntime) -> Result<(), Failure> {
+    tell_what_is_awaited(rt);
     let mut buffer = [0; INPUT_ROOM];
     let read = read_all(&mut rt.stdin(), &mut buffer).map_err(|_| Failure::Input)?;
     let mut sheet = [0; determination::SHEET_MOST];

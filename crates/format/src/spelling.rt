@@ -1,5 +1,5 @@
 // The spelling of a number in columns.
-ghost use Rattle.std.specs.Prelude.{◌≡◌, ◌<◌, length, replicate, Some, None};
+ghost use Rattle.std.specs.Prelude.{◌≡◌, ◌<◌, ◌&&◌, length, replicate, Some, None, leb};
 ghost use Rattle.records.specs.Notation.{pick};
 ghost use Rattle.format.specs.Spelling.{spelled, same, pushed, value};
 ghost use Rattle.format.specs.Steps.{continues};
@@ -40,29 +40,39 @@ pub(crate) fn spells(columns: &[u8; 8], sign: u8, n: u64) -> bool
     *columns == spelling
 }
 
+// The number with one more digit; none where the column is no digit.
+fn with_digit(number: u64, column: u8) -> Option<u64>
+    requires { number < 100_000_000 }
+    ensures { result ≡ pick (leb 48 column && leb column 57) (Some (pushed number column)) None }
+{
+    match column {
+        b'0'..=b'9' => Some(number * 10 + u64::from(column - b'0')),
+        _ => None,
+    }
+}
+
 // The number with one more column, after columns that make `number` and are blanks where that is 0; none where the column may not follow them: a number's first digit
 // is no 0 unless it is its last.
 pub(crate) fn with_column(number: u64, column: u8, last: bool) -> Option<u64>
     requires { number < 100_000_000 }
     ensures { result ≡ pick (continues number column last) (Some (pushed number column)) None }
 {
+    if last || number != 0 {
+        return with_digit(number, column);
+    }
     match column {
-        b' ' if !last && number == 0 => Some(0),
-        b'0' if last || 0 < number => Some(number * 10),
-        b'1'..=b'9' => Some(number * 10 + u64::from(column - b'0')),
+        b' ' => Some(0),
+        b'1'..=b'9' => Some(u64::from(column - b'0')),
         _ => None,
     }
 }
 
-// The number with one more column.
+// The number with one more column; one that is no digit is passed over.
 fn push(number: u64, column: u8) -> u64
     requires { number < 100_000_000 }
     ensures { result ≡ pushed number column }
 {
-    match column {
-        b'0'..=b'9' => number * 10 + u64::from(column - b'0'),
-        _ => number,
-    }
+    with_digit(number, column).unwrap_or(number)
 }
 
 // The number that the digits among eight columns make.

@@ -344,3 +344,34 @@ fn standard_output_cut_off() {
     let sheet = fs::read(samples::folder().join("walls.sheet")).expect("a sample");
     assert!(!written.is_empty() && written.len() < sheet.len() && sheet.starts_with(&written), "{} bytes", written.len());
 }
+
+// ---- the program at a terminal ----
+
+/// A file of these tests' own.
+fn own(name: &str) -> PathBuf {
+    Path::new(env!("CARGO_TARGET_TMPDIR")).join(name)
+}
+
+/// What the program prints on standard output and standard error where standard input is a terminal, at which this is typed and then Ctrl-D. `script`
+/// makes the terminal.
+fn printed_at_a_terminal(typed: &[u8]) -> (String, String) {
+    let (output, error) = (own("terminal-output"), own("terminal-error"));
+    let command = format!("'{}' > '{}' 2> '{}'", program().display(), output.display(), error.display());
+    let mut child = Command::new("script")
+        .args(["--quiet", "--return", "--command", &command, "/dev/null"])
+        .stdin(Stdio::piped())
+        .stdout(Stdio::null())
+        .spawn()
+        .expect("script of util-linux starts");
+    child.stdin.take().expect("a pipe").write_all(typed).expect("typed");
+    assert!(child.wait().expect("script ends").success());
+    (fs::read_to_string(output).expect("a file"), fs::read_to_string(error).expect("a file"))
+}
+
+#[test]
+fn a_person_at_a_terminal_is_told_what_is_awaited() {
+    let awaited = "determine: a survey is awaited on standard input; for a file: determine < FILE\n";
+    let sheet = String::from_utf8(independent::determine(&write_survey(&worked_example()))).expect("text");
+    assert_eq!(printed_at_a_terminal(b""), ("E           1           1\n".into(), awaited.into()));
+    assert_eq!(printed_at_a_terminal(&write_survey(&worked_example())), (sheet, awaited.into()));
+}
