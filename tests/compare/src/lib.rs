@@ -1,4 +1,5 @@
 //! The proved library called from Rust, and its answers as the independent program's types.
+pub mod documents;
 pub mod picture;
 pub mod samples;
 pub mod spectrum;
