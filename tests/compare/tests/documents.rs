@@ -262,7 +262,8 @@ fn without_last_field(survey: &[u8]) -> Vec<u8> {
 
 #[test]
 fn the_last_field_is_added() {
-    let [command] = &indented(&section("REFUSALS.md", "## `E 1 3` on a file written before the field \"detailed to annex E\""))[..] else { panic!("one command") };
+    let section = section("REFUSALS.md", "## `E 1 3` on a file written before the field \"detailed to annex E\"");
+    let [command] = &indented(&section)[..] else { panic!("one command") };
     for name in ["plain-block", "cases-tension"] {
         let survey = samples::survey(name);
         let earlier = without_last_field(&survey);
