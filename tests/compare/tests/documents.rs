@@ -7,6 +7,16 @@ use std::fs;
 use std::os::unix::fs::symlink;
 use std::path::{Path, PathBuf};
 use std::process::{Command, Output};
+use std::sync::atomic::{AtomicU32, Ordering};
+
+fn text(bytes: &[u8]) -> String {
+    String::from_utf8_lossy(bytes).into()
+}
+
+/// The sheet of a sample.
+fn sheet(name: &str) -> Vec<u8> {
+    samples::all().into_iter().find(|sample| sample.name == name).unwrap_or_else(|| panic!("no sample {name}")).sheet
+}
 
 // ---- lines of samples ----
 
@@ -48,11 +58,10 @@ fn the_worked_lines_stand_in_the_samples_named() {
     let introductions: Vec<&str> = section.lines().filter(|line| line.ends_with("`:")).collect();
     let texts = indented(&section);
     assert_eq!((introductions.len(), texts.len()), (6, 6));
-    for (introduction, text) in introductions.iter().zip(texts) {
+    for (introduction, lines) in introductions.iter().zip(texts) {
         let name = quoted(introduction)[0];
-        let sample = samples::all().into_iter().find(|sample| sample.name == name).unwrap_or_else(|| panic!("no sample {name}"));
-        let sheet = String::from_utf8(sample.sheet).expect("text");
-        assert!(text.lines().all(|line| sheet.lines().any(|own| own == line)), "{name} has not\n{text}");
+        let sheet = text(&sheet(name));
+        assert!(lines.lines().all(|line| sheet.lines().any(|own| own == line)), "{name} has not\n{lines}");
     }
 }
 
@@ -62,7 +71,9 @@ struct Folder(PathBuf);
 
 impl Folder {
     fn new(name: &str) -> Folder {
-        let path = std::env::temp_dir().join(format!("llunareth-{name}-{}", std::process::id()));
+        static MADE: AtomicU32 = AtomicU32::new(0);
+        let number = MADE.fetch_add(1, Ordering::Relaxed);
+        let path = std::env::temp_dir().join(format!("llunareth-{name}-{}-{number}", std::process::id()));
         fs::create_dir(&path).expect("a new folder");
         Folder(path)
     }
@@ -86,10 +97,6 @@ impl Drop for Folder {
     fn drop(&mut self) {
         let _ = fs::remove_dir_all(&self.0);
     }
-}
-
-fn text(bytes: &[u8]) -> String {
-    String::from_utf8_lossy(bytes).into()
 }
 
 // ---- several buildings ----
@@ -155,7 +162,7 @@ fn sheets_cut_off_after_each_byte() {
     symlink("/bin/cat", stand_in.0.join("determine")).expect("a link");
     let mut expected = String::new();
     for (name, verdict) in [("worked-example", "Risky"), ("refusal-8-too-long", "refused by 8, line 0"), ("risky-by-tilt", "Risky")] {
-        let sheet = samples::all().into_iter().find(|sample| sample.name == name).expect("a sample").sheet;
+        let sheet = sheet(name);
         for length in 0..=sheet.len() {
             let file = format!("{name}-{length:03}.survey");
             folder.put(&file, &sheet[..length]);
@@ -168,24 +175,37 @@ fn sheets_cut_off_after_each_byte() {
     assert_eq!(sorted(&text(&output.stdout)), sorted(&expected));
 }
 
-/// An earlier sheet is not taken for that of a survey that cannot be read, nor where the program is absent.
+/// An earlier sheet is not taken for that of a survey that cannot be read: it is emptied.
 #[test]
-fn an_earlier_sheet_is_not_taken() {
-    let folder = Folder::new("earlier");
-    let sheet = samples::all().into_iter().find(|sample| sample.name == "worked-example").expect("a sample").sheet;
+fn an_earlier_sheet_is_emptied() {
+    let folder = earlier_sheets();
     fs::create_dir(folder.0.join("a folder.survey")).expect("a folder");
     symlink("nowhere", folder.0.join("absent.survey")).expect("a link");
-    let put_earlier = || ["a folder.sheet", "absent.sheet"].iter().for_each(|name| folder.put(name, &sheet));
-    put_earlier();
-    let none = "a folder.survey: no whole sheet, no verdict\nabsent.survey: no whole sheet, no verdict\n";
     let output = folder.bash(&the_loop()[0], &programs());
-    assert_eq!(text(&output.stdout), none);
+    assert_eq!(text(&output.stdout), NO_VERDICTS);
     assert!(text(&output.stderr).contains("determine: standard input cannot be read\n"), "{}", text(&output.stderr));
-    fs::remove_file(folder.0.join("absent.survey")).expect("removed");
-    folder.put("absent.survey", &samples::survey("worked-example"));
-    put_earlier();
-    let output = folder.bash(&format!("PATH=.\n{}", the_loop()[0]), &folder.0);
-    assert_eq!(text(&output.stdout), none, "without the program");
+    assert_eq!([folder.get("a folder.sheet"), folder.get("absent.sheet")], [b"", b""]);
+}
+
+/// Nor where the program is absent, or where bash is told to write over no file, so that the earlier sheet stays.
+#[test]
+fn an_earlier_sheet_is_not_taken() {
+    for before in ["PATH=.", "set -C"] {
+        let folder = earlier_sheets();
+        ["a folder.survey", "absent.survey"].iter().for_each(|name| folder.put(name, &samples::survey("plain-block")));
+        let output = folder.bash(&format!("{before}\n{}", the_loop()[0]), &programs());
+        assert_eq!(text(&output.stdout), NO_VERDICTS, "{before}");
+    }
+}
+
+const NO_VERDICTS: &str = "a folder.survey: no whole sheet, no verdict\nabsent.survey: no whole sheet, no verdict\n";
+
+/// A folder with a sheet for each of two surveys.
+fn earlier_sheets() -> Folder {
+    let folder = Folder::new("earlier");
+    let sheet = sheet("worked-example");
+    ["a folder.sheet", "absent.sheet"].iter().for_each(|name| folder.put(name, &sheet));
+    folder
 }
 
 // ---- commands that mend a file ----
@@ -193,7 +213,7 @@ fn an_earlier_sheet_is_not_taken() {
 /// What a command of docs/REFUSALS.md makes of a file, in a plain locale and in one of UTF-8.
 fn mended(command: &str, spoiled: &[u8]) -> Vec<u8> {
     let made = ["C", "C.UTF-8"].map(|locale| {
-        let folder = Folder::new(&format!("mended-{}-{locale}", spoiled.len()));
+        let folder = Folder::new("mended");
         folder.put("FILE", spoiled);
         let output = folder.bash(&format!("export LC_ALL={locale}; {command}"), &folder.0);
         assert_eq!((output.status.success(), text(&output.stderr)), (true, String::new()), "{command}");
@@ -280,7 +300,7 @@ fn the_fields_of_a_line_are_numbered() {
     let [command] = &indented(&section("REFUSALS.md", "## A line's fields, numbered"))[..] else { panic!("one command") };
     for name in ["plain-block", "cases-tension", "tension"] {
         let survey = samples::survey(name);
-        let folder = Folder::new(&format!("numbered-{name}"));
+        let folder = Folder::new("numbered");
         folder.put("FILE", &survey);
         let output = folder.bash(command, &folder.0);
         let line = text(&survey).lines().nth(3 - 1).expect("line 3").to_string();
