@@ -1,4 +1,5 @@
 //! The proved library called from Rust, and its answers as the independent program's types.
+pub mod documents;
 pub mod picture;
 pub mod samples;
 pub mod spectrum;
@@ -10,6 +11,7 @@ use independent::{Fraction, Header, LoadCase, Member, Refusal, Storey, Survey};
 use llunareth::{raw, BuildingFinding, MemberFinding, StoreyCaseFinding, StoreyFinding};
 use llunareth::{HEADER_NUMBERS, MEMBER_NUMBERS, STOREY_NUMBERS};
 pub use llunareth::{Member as MemberRow, Storey as StoreyRow};
+use std::path::{Path, PathBuf};
 
 /// Both forms of a survey.
 pub const FORMS: [u64; 2] = [OLD_FORM, CASE_FORM];
@@ -375,6 +377,13 @@ pub fn same_determine(input: &[u8], len: usize) -> Vec<u8> {
     assert_filled(&out, &expected);
     assert!(printed == expected, "{len} bytes for a file of {}:\n{}", input.len(), String::from_utf8_lossy(input));
     expected
+}
+
+/// The program `determine`.
+pub fn program() -> PathBuf {
+    let path = Path::new(env!("CARGO_MANIFEST_DIR")).join("../../crates/determine/out/determine");
+    assert!(path.is_file(), "crates/determine/out/determine is absent: `rt run` in crates/determine makes it");
+    path
 }
 
 // ---- surveys ----

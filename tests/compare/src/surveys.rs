@@ -2,6 +2,7 @@
 //! Forces are in 0.1 kN, moments in 0.1 kNm, sides in mm; docs/FORMAT.md has the unit of every field.
 mod four_cases;
 mod old_form;
+mod one_reason;
 
 use crate::{worked_example, worked_example_in_cases};
 use generator::{file_of, survey_in_case, survey_lines, write_survey, Line};
@@ -14,7 +15,7 @@ pub fn all() -> Vec<(&'static str, Vec<u8>)> {
     accepted.into_iter().chain(refused()).collect()
 }
 
-fn accepted() -> [(&'static str, Survey); 20] {
+fn accepted() -> [(&'static str, Survey); 25] {
     let first_case = |survey: Survey| survey_in_case(0, &survey);
     [
         ("plain-block", old_form::plain_block()),
@@ -37,6 +38,11 @@ fn accepted() -> [(&'static str, Survey); 20] {
         ("cases-strengthened-wall", four_cases::strengthened_wall()),
         ("core-walls-class-a", old_form::core_walls(7_000)),
         ("core-walls-class-b", old_form::core_walls(9_000)),
+        ("risky-by-damage", one_reason::damage()),
+        ("risky-by-tilt", one_reason::tilt()),
+        ("risky-by-axial-load", one_reason::axial_load()),
+        ("tension", first_case(four_cases::tension())),
+        ("cases-tension", four_cases::tension()),
     ]
 }
 

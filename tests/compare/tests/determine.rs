@@ -1,5 +1,5 @@
 //! `determine`, as a call and as a program, against the independent program, byte by byte.
-use compare::{refusal_line, refusal_told, same_determine, samples, worked_example, worked_examples, FILE_REFUSALS, FORMS, REFUSALS};
+use compare::{program, refusal_line, refusal_told, same_determine, samples, worked_example, worked_examples, FILE_REFUSALS, FORMS, REFUSALS};
 use generator::{any_file, damage, lent_bytes, member_bytes, surveys_at_rows, valid_survey, valid_survey_of, write_survey, Rng, INPUT_MOST};
 use independent::lines::OLD_FORM;
 use std::collections::BTreeSet;
@@ -161,12 +161,6 @@ fn every_length_and_byte_of_a_small_file() {
 }
 
 // ---- the program ----
-
-fn program() -> PathBuf {
-    let path = Path::new(env!("CARGO_MANIFEST_DIR")).join("../../crates/determine/out/determine");
-    assert!(path.is_file(), "crates/determine/out/determine is absent: `rt run` in crates/determine makes it");
-    path
-}
 
 /// Writes to the program; whether it still reads.
 fn send(pipe: &mut ChildStdin, part: &[u8]) -> bool {

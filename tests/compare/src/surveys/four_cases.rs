@@ -122,6 +122,20 @@ pub fn strengthened_column_first() -> Survey {
     survey
 }
 
+/// Two corner columns that the first sense along the building lifts, two that the second lifts, and a column that hangs from the beams above.
+pub fn tension() -> Survey {
+    let pressed = LoadCase { n_k: 2_450, m_e: 2_300, m_p: 1_350, v_e: 820, v_r: 1_480, v: 1_500, rotation: 7_200, drift: 7_800 };
+    let lifted = LoadCase { n_k: -250, m_p: 900, v_e: 610, v_r: 1_400, v: 1_450, m_e: 2_100, ..pressed };
+    let across = LoadCase { n_k: 1_300, m_e: 1_400, m_p: 800, v_e: 560, v_r: 1_000, v: 1_400, rotation: 7_500, drift: 8_100 };
+    let back = LoadCase { n_k: 900, m_p: 760, ..across };
+    let hung = |n_k| LoadCase { n_k, m_e: 900, m_p: 800, v_e: 500, v_r: 1_350, v: 600, rotation: 7_000, drift: 7_800 };
+    let corner = |first, second| Member { n_d: 1_100, cases: [first, second, across, back], ..column() };
+    let hanger = Member { n_d: -350, cases: [-420, -380, -400, -390].map(hung), ..column() };
+    let (near, far) = (corner(lifted, pressed), corner(pressed, lifted));
+    let header = Header { knowledge: 90, height: 9_000, storeys_above_ground: 3, tilt_1: 300, tilt_2: 200, form: CASE_FORM, ..Header::default() };
+    building(header, &[vec![near, near, hanger, far, far]])
+}
+
 // ---- fields that all differ ----
 
 /// The member with its other fields counted down from its number, and its loads from case to case.

@@ -48,7 +48,7 @@ pub fn wall() -> Member {
 }
 
 /// The member with this N_D and these loads.
-fn loaded(member: Member, n_d: i64, load: LoadCase) -> Member {
+pub fn loaded(member: Member, n_d: i64, load: LoadCase) -> Member {
     Member { n_d, cases: one_case(load), ..member }
 }
 
@@ -106,7 +106,7 @@ pub fn walls() -> Survey {
 // ---- each class ----
 
 /// One storey, in a building of so many storeys of 3 m.
-fn one_storey(knowledge: u64, storeys: u64, members: Vec<Member>) -> Survey {
+pub fn one_storey(knowledge: u64, storeys: u64, members: Vec<Member>) -> Survey {
     let (height, storeys_above_ground) = (3_000 * storeys, storeys);
     let header = Header { knowledge, height, storeys_above_ground, tilt_1: 300, tilt_2: 200, form: OLD_FORM, ..Header::default() };
     building(header, &[members])
