@@ -9,10 +9,14 @@ pub mod raw;
 mod records;
 mod spectrum;
 
-pub use findings::{BuildingFinding, Cases, MemberFinding, Refusal, StoreyCaseFinding, StoreyFinding};
+pub use findings::{
+    BuildingFinding, Cases, MemberFinding, Refusal, StoreyCaseFinding, StoreyFinding, CASE_MISNUMBERED, COLUMN_A, COLUMN_B, COLUMN_C,
+    FILE_TOO_LONG, NOT_LOW_RISE, NUMBER_REPEATED, OUTSIDE_MAP, OUT_OF_RANGE, SHEET_TOO_LONG, SIDES_EXCHANGED, SPELLING, STRUCTURE, TOO_LARGE,
+    TRAILING_BYTES, WALL_A, WALL_B,
+};
 pub use records::{
-    Header, LoadCase, Member, Storey, Survey, CASES, CASE_NUMBERS, FORCE_SCALE, FOUR_CASES, HEADER_NUMBERS, MEMBER_NUMBERS, OLD_FORM, RATIO_SCALE,
-    ROTATION_SCALE, SHEET_MOST, STOREY_NUMBERS, WRITE_MOST, ZERO_FORCE,
+    force, signed_force, Header, LoadCase, Member, Storey, Survey, CASES, CASE_NUMBERS, FORCE_SCALE, FOUR_CASES, HEADER_NUMBERS, MEMBER_NUMBERS,
+    OLD_FORM, RATIO_SCALE, ROTATION_SCALE, SHEET_MOST, STOREY_NUMBERS, WRITE_MOST, ZERO_FORCE,
 };
 pub use spectrum::{site_coefficients, spectrum, Motion, SiteFinding, FACTOR_SCALE, MAP_SCALE, PERIOD_SCALE, SPECTRUM_SCALE};
 

@@ -1,5 +1,6 @@
 //! The proved library called from Rust, and its answers as the independent program's types.
 pub mod picture;
+pub mod programs;
 pub mod samples;
 pub mod spectrum;
 pub mod surveys;
