@@ -4,6 +4,7 @@ pub mod programs;
 pub mod samples;
 pub mod spectrum;
 pub mod surveys;
+pub mod table;
 
 use generator::{edge_member_for, file_len, one_case, sheet_len, Rng};
 use independent::lines::{cases_of, BEFORE_CASE, CASES, CASE_FORM, LOAD_CASE, MEMBER, OLD_FORM};

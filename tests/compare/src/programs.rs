@@ -1,4 +1,5 @@
 //! Programs in C and C++ over the header and the proved library, and what a run of one gives.
+use std::fs::File;
 use std::io::Write;
 use std::path::{Path, PathBuf};
 use std::process::{Command, Output, Stdio};
@@ -61,4 +62,17 @@ pub fn is_there(program: &str) -> bool {
 pub fn languages() -> Vec<(&'static str, &'static str, &'static str)> {
     let all = [("gcc", "-std=c99", "c"), ("gcc", "-std=c11", "c"), ("g++", "-std=c++11", "c++")];
     all.into_iter().filter(|(name, ..)| *name == "gcc" || is_there(name)).collect()
+}
+
+/// `cargo` of the running tests, without the network, with a folder of its own for what it builds.
+pub fn cargo(action: &str, manifest: &Path, built: &Path) -> Command {
+    let mut command = Command::new(env!("CARGO"));
+    command.args([action, "--offline", "--manifest-path"]).arg(manifest).env("CARGO_TARGET_DIR", built).env_remove("LLUNARETH_LIB_DIR");
+    command
+}
+
+/// What a program prints for a file on its standard input, and its exit status.
+pub fn run_on(program: &Path, file: &Path) -> (String, Option<i32>) {
+    let input = File::open(file).unwrap_or_else(|e| panic!("{}: {e}", file.display()));
+    outcome(Command::new(program).stdin(input).output().unwrap_or_else(|e| panic!("{}: {e}", program.display())))
 }
