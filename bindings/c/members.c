@@ -41,16 +41,13 @@ static void print_row(uint64_t storey, uint64_t member, size_t load_case, const 
 static void print_storey(const struct llunareth_header *header, const struct llunareth_storey *storey, const struct llunareth_member *own)
 {
     const size_t cases = header->form == LLUNARETH_FOUR_CASES ? LLUNARETH_CASES : 1;
-    struct llunareth_storey_finding found;
+    struct llunareth_storey_finding found = {0};
     struct llunareth_member_finding member[LLUNARETH_CASES];
-    bool met[LLUNARETH_CASES] = {false};
     check(llunareth_judge_storey(header->knowledge, header->form, (const uint64_t *)storey, LLUNARETH_STOREY_NUMBERS, own,
                                  (size_t)storey->count, (uint64_t *)&found, LLUNARETH_STOREY_VALUES));
-    for (size_t c = 0; c < cases; c++) {
-        met[c] = found.cases[c].walls_suffice == 1;
-    }
     for (size_t i = 0; i < storey->count; i++) {
-        check(llunareth_judge_member(header->knowledge, header->form, met[0], met[1], met[2], met[3], (const uint64_t *)&own[i],
+        check(llunareth_judge_member(header->knowledge, header->form, found.cases[0].walls_suffice, found.cases[1].walls_suffice,
+                                     found.cases[2].walls_suffice, found.cases[3].walls_suffice, (const uint64_t *)&own[i],
                                      LLUNARETH_MEMBER_NUMBERS, (uint64_t *)member, LLUNARETH_MEMBER_VALUES));
         for (size_t c = 0; c < cases; c++) {
             print_row(storey->number, own[i].number, c + 1, &member[c]);

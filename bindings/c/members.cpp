@@ -40,16 +40,13 @@ void print_row(uint64_t storey, uint64_t member, int load_case, const llunareth_
 void print_storey(const llunareth_header &header, const llunareth_storey &storey, const llunareth_member *own)
 {
     const int cases = header.form == LLUNARETH_FOUR_CASES ? LLUNARETH_CASES : 1;
-    llunareth_storey_finding found;
+    llunareth_storey_finding found = {};
     llunareth_member_finding member[LLUNARETH_CASES];
-    bool met[LLUNARETH_CASES] = {};
     check(llunareth_judge_storey(header.knowledge, header.form, taken(storey), LLUNARETH_STOREY_NUMBERS, own, storey.count, put(found),
                                  LLUNARETH_STOREY_VALUES));
-    for (int c = 0; c < cases; c++) {
-        met[c] = found.cases[c].walls_suffice == 1;
-    }
     for (uint64_t i = 0; i < storey.count; i++) {
-        check(llunareth_judge_member(header.knowledge, header.form, met[0], met[1], met[2], met[3], taken(own[i]), LLUNARETH_MEMBER_NUMBERS,
+        check(llunareth_judge_member(header.knowledge, header.form, found.cases[0].walls_suffice, found.cases[1].walls_suffice,
+                                     found.cases[2].walls_suffice, found.cases[3].walls_suffice, taken(own[i]), LLUNARETH_MEMBER_NUMBERS,
                                      put(member), LLUNARETH_MEMBER_VALUES));
         for (int c = 0; c < cases; c++) {
             print_row(storey.number, own[i].number, c + 1, member[c]);

@@ -4,7 +4,7 @@ use crate::{CASES, FOUR_CASES};
 use std::fmt;
 use std::ops::Deref;
 
-/// The refusals by their numbers (docs/REFUSALS.md); 10 and 13 are not used. A line is not of the kind or length due there, or absent; a count
+/// The refusals by their numbers (REFUSALS.md); 10 and 13 are not used. A line is not of the kind or length due there, or absent; a count
 /// is not that of the rows.
 pub const STRUCTURE: u64 = 1;
 
@@ -48,7 +48,7 @@ pub const COLUMN_C: u64 = 3;
 pub const WALL_A: u64 = 4;
 pub const WALL_B: u64 = 5;
 
-/// A refusal by its number ([`STRUCTURE`] to [`OUTSIDE_MAP`], docs/REFUSALS.md), with the line when reading, else line 0.
+/// A refusal by its number ([`STRUCTURE`] to [`OUTSIDE_MAP`], REFUSALS.md), with the line when reading, else line 0.
 #[derive(Clone, Copy, Debug, PartialEq, Eq, Hash)]
 pub struct Refusal {
     pub number: u64,

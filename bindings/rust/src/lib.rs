@@ -1,6 +1,6 @@
 //! The proved calls of Llunareth for programs in Rust: read a survey file, check a record, judge a member, a storey and a building, write the
-//! report, write a survey as a file, find a site's coefficients and its spectrum. docs/CALLS.md has the calls and their refusals, docs/FORMAT.md
-//! the survey file and its fields, docs/SPECTRUM.md the codes and units of sites and spectra.
+//! report, write a survey as a file, find a site's coefficients and its spectrum. CALLS.md has the calls and their refusals, FORMAT.md
+//! the survey file and its fields, SPECTRUM.md the codes and units of sites and spectra.
 //!
 //! No call relies on checks made before it: every file and record, good or bad, yields an answer or a refusal. Every call panics where the
 //! linked library has another form of the calls than this package knows ([`raw::VERSION`]).

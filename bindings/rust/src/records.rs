@@ -1,4 +1,4 @@
-//! The records of a survey, laid out as the proved library has them. Ranges stand in docs/FORMAT.md.
+//! The records of a survey, laid out as the proved library has them. Ranges stand in FORMAT.md.
 
 /// N_D and N_K are counted from -20,000,000: this number stands for 0. A force handed in as it is, is refused by 3.
 pub const ZERO_FORCE: u64 = 20_000_000;

@@ -1,7 +1,7 @@
 //! The header for C and C++ and the program `verdict`, over the proved library, against the independent program.
 use compare::programs::{self, compile_text, compiler, languages, outcome, said};
 use compare::{
-    by_storey, header_numbers, in_four_cases, judge_building, judge_storey, member_numbers, member_rows, plain_column, refusal_told, same_building,
+    by_storey, header_numbers, in_four_cases, judge_building, judge_storey, member_numbers, member_rows, member_values, plain_column, refusal_told, same_building,
     same_member, samples, storey_numbers, told_member, told_storey, worked_example,
 };
 use generator::{
@@ -9,7 +9,7 @@ use generator::{
 };
 use independent::lines::OLD_FORM;
 use independent::{Header, LoadCase, Member, Motion, Storey, Survey};
-use llunareth::{raw, MemberFinding, StoreyCaseFinding};
+use llunareth::{raw, StoreyCaseFinding};
 use std::fs::{self, File};
 use std::path::{Path, PathBuf};
 use std::process::{Command, Stdio};
@@ -200,12 +200,7 @@ fn line(word: &str, numbers: &[u64]) -> String {
     format!("{word}{numbers}\n")
 }
 
-/// The values of a finding, in their order.
-fn member_values(f: MemberFinding) -> [u64; raw::FINDING_VALUES] {
-    let flags = [f.m_dropped, f.over_m, f.over_rotation].map(u64::from);
-    [f.class, f.m, f.m_limit, f.rotation, f.rotation_limit, f.over.into(), f.nd, flags[0], flags[1], flags[2]]
-}
-
+/// The values of what is found of a storey in a case, in their order.
 fn storey_values(f: StoreyCaseFinding) -> [u64; raw::STOREY_CASE_VALUES] {
     let [risky, met, share, one, damage] = [f.risky, f.walls_suffice, f.by_share, f.by_one_over, f.by_damage].map(u64::from);
     [f.axial_total, f.members, f.over_shear, f.shear, risky, met, share, one, damage, f.allowed_num, f.allowed_den]

@@ -133,6 +133,9 @@ fn the_examples_in_c_and_cpp() {
 fn the_example_in_rust() {
     let outside = installed("rust");
     assert_tables(&in_rust(&outside, None));
+    let mut package = cargo("build", &outside.join("installed/share/llunareth/rust/Cargo.toml"), &outside.join("built"));
+    assert_done(&package.args(["--example", "members"]).output().expect("cargo starts"));
+    assert_tables(&outside.join("built/debug/examples/members"));
     fs::create_dir(outside.join("elsewhere")).expect("a folder");
     fs::rename(outside.join("installed/lib/libllunareth.a"), outside.join("elsewhere/libllunareth.a")).expect("moved");
     let wrong = cargo("build", &outside_crate(&outside), &outside.join("built")).output().expect("cargo starts");
@@ -270,15 +273,39 @@ fn the_library_has_no_data_that_changes() {
     }
 }
 
+/// The commands of docs/CALLS.md for a program and for a shared library, with the folder of this copy in place of theirs.
+fn commands(outside: &Outside) -> Vec<String> {
+    let text = fs::read_to_string(outside.join("installed/share/doc/llunareth/CALLS.md")).expect("the page");
+    let prefix = outside.join("installed").display().to_string();
+    text.lines().filter_map(|line| Some(line.strip_prefix("    gcc ")?.replace("/usr/local", &prefix))).collect()
+}
+
+/// Runs the arguments of gcc by bash in the folder.
+fn gcc(outside: &Outside, arguments: &str) {
+    let mut command = Command::new("bash");
+    command.args(["-c", &format!("gcc {arguments}")]).env("PKG_CONFIG_PATH", outside.join("installed/lib/pkgconfig"));
+    assert_done(&command.current_dir(&outside.0).output().expect("bash starts"));
+}
+
 #[test]
-fn a_shared_library_made_from_it() {
-    let outside = installed("shared");
-    let made = "-shared -Wl,-soname,libllunareth.so.8 -Wl,--whole-archive installed/lib/libllunareth.a -Wl,--no-whole-archive -o libllunareth.so.8";
-    assert_done(&outside.start("gcc", made.split(' ')));
-    assert_eq!(symbols(&told_of(&outside, "nm", &["--dynamic", "--extern-only", "--defined-only"], "libllunareth.so.8")), CALLS);
-    let flags = ["-Iinstalled/include", "libllunareth.so.8", "-Wl,-rpath,$ORIGIN"].map(String::from);
+fn the_commands_of_the_page() {
+    let outside = installed("commands");
+    fs::copy(outside.join("installed/share/doc/llunareth/examples/members.c"), outside.join("members.c")).expect("copied");
+    fs::copy(outside.join("installed/lib/libllunareth.a"), outside.join("libllunareth.a")).expect("copied");
+    let commands = commands(&outside);
+    let [by_pkg_config, by_name, shared] = &commands[..] else { panic!("three commands: {commands:?}") };
+    if is_there("pkg-config") {
+        gcc(&outside, by_pkg_config);
+        assert_tables(&outside.join("members"));
+    }
+    gcc(&outside, by_name);
+    assert_tables(&outside.join("members"));
+    gcc(&outside, shared);
+    let library = format!("libllunareth.so.{VERSION}");
+    assert_eq!(symbols(&told_of(&outside, "nm", &["--dynamic", "--extern-only", "--defined-only"], &library)), CALLS);
+    let flags = ["-Iinstalled/include", &library, "-Wl,-rpath,$ORIGIN"].map(String::from);
     let program = example(&outside, ("gcc", "-std=c99"), "members.c", &flags, "members_shared");
-    assert!(told_of(&outside, "objdump", &["--private-headers"], "members_shared").contains("libllunareth.so.8"));
+    assert!(told_of(&outside, "objdump", &["--private-headers"], "members_shared").contains(&library));
     assert_tables(&program);
 }
 
@@ -286,10 +313,8 @@ fn a_shared_library_made_from_it() {
 #[test]
 fn sizes() {
     let outside = installed("sizes");
-    let flags = ["-O2", "-s", "-Wl,--gc-sections", "-Iinstalled/include", "installed/lib/libllunareth.a"].map(String::from);
-    example(&outside, ("gcc", "-std=c99"), "verdict.c", &flags, "verdict_small");
-    for (name, most) in [("installed/lib/libllunareth.a", 90_000), ("installed/bin/determine", 60_000), ("verdict_small", 60_000)] {
-        let length = fs::metadata(outside.join(name)).expect("a file").len();
+    for (name, most) in [("lib/libllunareth.a", 90_000), ("bin/determine", 60_000), ("bin/verdict", 60_000)] {
+        let length = fs::metadata(outside.join("installed").join(name)).expect("a file").len();
         assert!(0 < length && length <= most, "{name}: {length} bytes");
     }
 }

@@ -75,6 +75,14 @@ fn refusals_and_classes_of_the_header_are_those_of_the_proved_code() {
     }
 }
 
+#[test]
+fn the_page_of_the_calls_has_the_names_with_their_numbers() {
+    let page = text("docs/CALLS.md");
+    for (name, number) in refusals().into_iter().chain(classes()) {
+        assert!(page.contains(&format!("{number} `{name}`")), "{number} {name}");
+    }
+}
+
 // ---- places ----
 
 /// The places that the header has for the values of a call which has a struct of them.
