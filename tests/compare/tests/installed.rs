@@ -182,6 +182,25 @@ fn installed_under_destdir_and_taken_away() {
     assert!(!install(&root(), &[&["uninstall".to_string()], &args[..]].concat()).status.success());
 }
 
+/// The targets of the links of a page, without those within it.
+fn links(page: &str) -> Vec<&str> {
+    page.split("](").skip(1).filter_map(|rest| rest.split([')', '#']).next()).filter(|target| !target.is_empty()).collect()
+}
+
+#[test]
+fn the_links_of_the_installed_pages() {
+    let outside = installed("links");
+    let folder = outside.join("installed/share/doc/llunareth");
+    let pages = files(&folder).into_iter().filter(|path| path.extension() == Some(OsStr::new("md")));
+    let texts: Vec<String> = pages.map(|path| fs::read_to_string(path).expect("a page")).collect();
+    assert_eq!(texts.len(), 5);
+    let targets: Vec<&str> = texts.iter().flat_map(|text| links(text)).collect();
+    assert!(targets.contains(&"FORMAT.md") && targets.contains(&"spectrum.svg"));
+    for target in targets {
+        assert!(folder.join(target).is_file(), "{target}");
+    }
+}
+
 /// A copy of the bindings without what is built.
 fn unbuilt(name: &str) -> Outside {
     let outside = Outside::new(name);
