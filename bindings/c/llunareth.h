@@ -1,13 +1,15 @@
 /*
- * The calls of Llunareth for programs in C (C99 and later) and C++. Link with crates/exports/out/libexports.a, which `rt lib` in crates/exports
- * makes. docs/CALLS.md has the calls and their refusals; docs/FORMAT.md has the survey file and the fields with their units and ranges;
- * docs/SPECTRUM.md has the codes and units of sites and spectra.
+ * The calls of Llunareth for programs in C (C99 and later) and C++ (C++11 and later). Link with libllunareth.a of an installed copy, or with
+ * crates/exports/out/libexports.a of the repository, which `rt lib` in crates/exports makes: the same library. CALLS.md has the calls and
+ * their refusals, and how to install and link; FORMAT.md has the survey file and the fields with their units and ranges; SPECTRUM.md has the
+ * codes and units of sites and spectra.
  *
- * A buffer is handed over as a pointer and the number of its elements. The pointer is not null, also where there are none, and a buffer that
- * a call may change overlaps no other.
+ * A buffer is handed over as a pointer and the number of its elements. The pointer is not null, also where there are none, rows and numbers
+ * stand at addresses that 8 divides, and a buffer that a call may change overlaps no other.
  *
  * A record handed in as numbers has them in the order of its struct, a header those of the B line and then its form. A number that is not
- * given is refused; numbers past the last are not looked at. A row is handed in as numbers by (const uint64_t *)&row.
+ * given is refused; numbers past the last are not looked at. A struct is handed in as numbers by (const uint64_t *)&row, and one is lent as
+ * `out` by (uint64_t *)&finding, with the number of its values: each is numbers of 64 bits one after another and no others.
  *
  * A survey has one of two forms, which its header tells: the old form of one load case, or the form of four. In the old form the first case
  * and the first storey shear hold the values. The other cases hold 0, N_K the force 0: LLUNARETH_NO_CASE; a case of zeros is refused by 3.
@@ -42,6 +44,32 @@ enum {
 /* How many load cases a record holds. */
 enum { LLUNARETH_CASES = 4 };
 
+/* The classes of members. */
+enum {
+    LLUNARETH_COLUMN_A = 1,
+    LLUNARETH_COLUMN_B = 2,
+    LLUNARETH_COLUMN_C = 3,
+    LLUNARETH_WALL_A = 4,
+    LLUNARETH_WALL_B = 5
+};
+
+/* The refusals by their numbers (REFUSALS.md); 10 and 13 are not used. */
+enum {
+    LLUNARETH_ACCEPTED = 0,          /* none */
+    LLUNARETH_STRUCTURE = 1,         /* a line is not of the kind or length due there, or absent; a count is not the rows given */
+    LLUNARETH_SPELLING = 2,          /* a field is not written as it must be */
+    LLUNARETH_OUT_OF_RANGE = 3,      /* a number is outside its range */
+    LLUNARETH_SIDES_EXCHANGED = 4,   /* the short side is above the long side */
+    LLUNARETH_NUMBER_REPEATED = 5,   /* a storey's or a member's number stands twice */
+    LLUNARETH_TRAILING_BYTES = 6,    /* something follows the last line */
+    LLUNARETH_NOT_LOW_RISE = 7,      /* the building is above 30 m or 10 storeys */
+    LLUNARETH_TOO_LARGE = 8,         /* more records than rows lent, or a longer file than llunareth_determine takes */
+    LLUNARETH_SHEET_TOO_LONG = 9,    /* the sheet is longer than the bytes lent */
+    LLUNARETH_FILE_TOO_LONG = 11,    /* the file to be written is longer than the bytes lent */
+    LLUNARETH_CASE_MISNUMBERED = 12, /* the D lines of a member are not numbered 1, 2, 3, 4 */
+    LLUNARETH_OUTSIDE_MAP = 14       /* a map coefficient or a period for which there is no spectrum */
+};
+
 /* How many numbers a record has. */
 enum {
     LLUNARETH_HEADER_NUMBERS = 7,
@@ -60,7 +88,7 @@ enum {
     LLUNARETH_FORCE_SCALE = 10          /* kN: forces (N_D and N_K after LLUNARETH_ZERO_FORCE is taken away); kNm: moments */
 };
 
-/* The same of sites and spectra (docs/SPECTRUM.md). */
+/* The same of sites and spectra (SPECTRUM.md). */
 enum {
     LLUNARETH_MAP_SCALE = 100,         /* 1: the map coefficients S_S and S_1 */
     LLUNARETH_FACTOR_SCALE = 1000,     /* 1: F_S and F_1 */
@@ -88,6 +116,17 @@ enum {
 /* The longest file that llunareth_write writes: 10 storeys of 200 members in four load cases. */
 enum { LLUNARETH_WRITE_MOST = 900550 };
 
+/* The B line, and the form. */
+struct llunareth_header {
+    uint64_t knowledge; /* k, hundredths */
+    uint64_t height;    /* H_T, mm */
+    uint64_t storeys;   /* n_s */
+    uint64_t tilt1;     /* microradians */
+    uint64_t tilt2;
+    uint64_t count;     /* how many S lines follow */
+    uint64_t form;      /* LLUNARETH_OLD_FORM or LLUNARETH_FOUR_CASES */
+};
+
 /* The S line. */
 struct llunareth_storey {
     uint64_t number;
@@ -114,7 +153,7 @@ struct llunareth_load_case {
 #define LLUNARETH_NO_CASE {LLUNARETH_ZERO_FORCE, 0, 0, 0, 0, 0, 0, 0}
 
 /*
- * The M line: a column or a wall. Lengths are in mm. The names are those of docs/CALLS.md, but for long_side and short_side: long and short
+ * The M line: a column or a wall. Lengths are in mm. The names are those of CALLS.md, but for long_side and short_side: long and short
  * are words of C.
  */
 struct llunareth_member {
@@ -140,17 +179,85 @@ struct llunareth_member {
     struct llunareth_load_case cases[LLUNARETH_CASES];
 };
 
-#if defined(__cplusplus) && __cplusplus >= 201103L
-#define LLUNARETH_ASSERT(fact, text) static_assert(fact, text)
-#elif defined(__STDC_VERSION__) && __STDC_VERSION__ >= 201112L
-#define LLUNARETH_ASSERT(fact, text) _Static_assert(fact, text)
-#endif
-#ifdef LLUNARETH_ASSERT
-LLUNARETH_ASSERT(sizeof(struct llunareth_storey) == 8 * LLUNARETH_STOREY_NUMBERS, "a storey row is 6 numbers");
-LLUNARETH_ASSERT(sizeof(struct llunareth_load_case) == 8 * LLUNARETH_CASE_NUMBERS, "a load case is 8 numbers");
-LLUNARETH_ASSERT(sizeof(struct llunareth_member) == 8 * LLUNARETH_MEMBER_NUMBERS, "a member row is 51 numbers");
-#undef LLUNARETH_ASSERT
-#endif
+/*
+ * The number that stands for a force, N_D or N_K in 0.1 kN. A force below -20,000,000 gives 0; that number, and every other that stands for
+ * a force outside its range, is refused by 3.
+ */
+static inline uint64_t llunareth_force(int64_t tenths)
+{
+    return tenths < -(int64_t)LLUNARETH_ZERO_FORCE ? 0 : (uint64_t)tenths + LLUNARETH_ZERO_FORCE;
+}
+
+/* The force that a number stands for, in 0.1 kN; INT64_MAX where the force is above that. */
+static inline int64_t llunareth_signed_force(uint64_t number)
+{
+    if (number < LLUNARETH_ZERO_FORCE) {
+        return -(int64_t)(LLUNARETH_ZERO_FORCE - number);
+    }
+    number -= LLUNARETH_ZERO_FORCE;
+    return number < (uint64_t)INT64_MAX ? (int64_t)number : INT64_MAX;
+}
+
+/* What llunareth_read puts out. */
+struct llunareth_reading {
+    struct llunareth_header header;
+    uint64_t storey_rows; /* how many rows are filled */
+    uint64_t member_rows;
+};
+
+/*
+ * What llunareth_judge_member finds in one load case. The call puts out one of these for each case of the form, and gets an array of
+ * LLUNARETH_CASES of them in either form.
+ */
+struct llunareth_member_finding {
+    uint64_t member_class; /* LLUNARETH_COLUMN_A to LLUNARETH_WALL_B */
+    uint64_t m;            /* hundred-thousandths, as its limit */
+    uint64_t m_limit;
+    uint64_t rotation;     /* microradians, as its limit */
+    uint64_t rotation_limit;
+    uint64_t over;          /* past either limit, 0 or 1 */
+    uint64_t nd;            /* the axial ratio n_D, hundred-thousandths */
+    uint64_t m_dropped;     /* 1 where the m test is dropped, else 0 */
+    uint64_t over_m;        /* past the limit of m, 0 or 1; 0 where the test is dropped */
+    uint64_t over_rotation; /* past the limit of the rotation, 0 or 1 */
+};
+
+/* What llunareth_judge_storey finds in one load case. Forces are in 0.1 kN. */
+struct llunareth_storey_case_finding {
+    uint64_t axial_total;   /* total of n_D, hundred-thousandths */
+    uint64_t members;       /* c */
+    uint64_t over_shear;    /* P, total of V over the members that are over */
+    uint64_t shear;         /* W, the storey shear */
+    uint64_t risky;         /* Risky in this case, 0 or 1 */
+    uint64_t walls_suffice; /* 1 where the walls carry 0.40 of the storey shear or more, else 0 */
+    uint64_t by_share;      /* Risky as P / W is above the allowed share, 0 or 1 */
+    uint64_t by_one_over;   /* Risky as a member is over while the total of n_D is above 65,000 c, 0 or 1 */
+    uint64_t by_damage;     /* Risky by damage, 0 or 1 */
+    uint64_t allowed_num;   /* the allowed share is this number */
+    uint64_t allowed_den;   /* divided by this one */
+};
+
+/* What llunareth_judge_storey puts out; in the old form the first case alone. */
+struct llunareth_storey_finding {
+    uint64_t risky; /* 0 or 1: in some case */
+    struct llunareth_storey_case_finding cases[LLUNARETH_CASES];
+};
+
+/* What llunareth_judge_building puts out. */
+struct llunareth_building_finding {
+    uint64_t tilted;    /* 1 where the larger tilt is above 25,000, else 0 */
+    uint64_t risky;     /* 0 or 1 */
+    uint64_t place;     /* the first Risky storey's place, counted from 1; 0 where none is Risky */
+    uint64_t load_case; /* that storey's lowest numbered Risky case, 1 in the old form; 0 where none is Risky */
+};
+
+/* What llunareth_site_coefficients puts out. */
+struct llunareth_site_finding {
+    uint64_t fs;  /* F_S, thousandths */
+    uint64_t f1;  /* F_1, thousandths */
+    uint64_t sds; /* S_DS, hundred-thousandths */
+    uint64_t sd1; /* S_D1, hundred-thousandths */
+};
 
 /* Returned where `out` is too short for a call's values; no refusal has this number. */
 enum { LLUNARETH_SHORT = 255 };
@@ -180,7 +287,7 @@ enum {
  * after them. The old form has those of the first case alone.
  */
 enum {
-    LLUNARETH_MEMBER_CLASS = 0,    /* 1 to 3 columns A to C, 4 and 5 walls A and B */
+    LLUNARETH_MEMBER_CLASS = 0,    /* LLUNARETH_COLUMN_A to LLUNARETH_WALL_B */
     LLUNARETH_MEMBER_M = 1,        /* hundred-thousandths, as its limit */
     LLUNARETH_MEMBER_M_LIMIT = 2,
     LLUNARETH_MEMBER_ROTATION = 3, /* microradians, as its limit */
@@ -250,6 +357,25 @@ enum {
     LLUNARETH_SPECTRUM_VALUE = 0, /* hundred-thousandths */
     LLUNARETH_SPECTRUM_VALUES = 1 /* how many values there are */
 };
+
+#if defined(__cplusplus) && __cplusplus >= 201103L
+#define LLUNARETH_ASSERT(fact, text) static_assert(fact, text)
+#elif defined(__STDC_VERSION__) && __STDC_VERSION__ >= 201112L
+#define LLUNARETH_ASSERT(fact, text) _Static_assert(fact, text)
+#endif
+#ifdef LLUNARETH_ASSERT
+LLUNARETH_ASSERT(sizeof(struct llunareth_header) == 8 * LLUNARETH_HEADER_NUMBERS, "a header is 7 numbers");
+LLUNARETH_ASSERT(sizeof(struct llunareth_storey) == 8 * LLUNARETH_STOREY_NUMBERS, "a storey row is 6 numbers");
+LLUNARETH_ASSERT(sizeof(struct llunareth_load_case) == 8 * LLUNARETH_CASE_NUMBERS, "a load case is 8 numbers");
+LLUNARETH_ASSERT(sizeof(struct llunareth_member) == 8 * LLUNARETH_MEMBER_NUMBERS, "a member row is 51 numbers");
+LLUNARETH_ASSERT(sizeof(struct llunareth_reading) == 8 * LLUNARETH_READ_VALUES, "a reading is 9 values");
+LLUNARETH_ASSERT(sizeof(struct llunareth_member_finding) == 8 * LLUNARETH_FINDING_VALUES, "a member has 10 values in a case");
+LLUNARETH_ASSERT(sizeof(struct llunareth_storey_case_finding) == 8 * LLUNARETH_STOREY_CASE_VALUES, "a storey has 11 values in a case");
+LLUNARETH_ASSERT(sizeof(struct llunareth_storey_finding) == 8 * LLUNARETH_STOREY_VALUES, "a storey has 45 values");
+LLUNARETH_ASSERT(sizeof(struct llunareth_building_finding) == 8 * LLUNARETH_BUILDING_VALUES, "a building has 4 values");
+LLUNARETH_ASSERT(sizeof(struct llunareth_site_finding) == 8 * LLUNARETH_SITE_VALUES, "a site has 4 values");
+#undef LLUNARETH_ASSERT
+#endif
 
 /* The form of the calls as the library has it: LLUNARETH_VERSION, or the library is not for this header. */
 uint64_t llunareth_version(void);

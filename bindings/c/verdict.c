@@ -20,9 +20,6 @@
 
 enum { JUDGED = 0, REFUSED = 1, FAILED = 2 };
 
-/* The refusal of a file that is too long. */
-enum { TOO_LONG = 8 };
-
 /* One byte more than the longest file, so that a longer one shows. */
 static uint8_t file[LLUNARETH_FILE_MOST + 1];
 static struct llunareth_storey storeys[LLUNARETH_STOREY_ROWS];
@@ -48,44 +45,44 @@ static void print_storey(uint64_t form, uint64_t place, uint64_t load_case)
     putchar('\n');
 }
 
-static int print_verdict(uint64_t form, const uint64_t *found)
+static int print_verdict(uint64_t form, const struct llunareth_building_finding *found)
 {
-    if (found[LLUNARETH_BUILDING_RISKY] == 0) {
+    if (!found->risky) {
         puts("not Risky");
-    } else if (found[LLUNARETH_BUILDING_PLACE] == 0) {
+    } else if (found->place == 0) {
         puts("Risky: tilt");
     } else {
-        print_storey(form, found[LLUNARETH_BUILDING_PLACE], found[LLUNARETH_BUILDING_CASE]);
+        print_storey(form, found->place, found->load_case);
     }
     return JUDGED;
 }
 
-/* Judges the building whose header stands in what the reading call put out. */
-static int judge(const uint64_t *read)
+/* Judges the building that was read. */
+static int judge(const struct llunareth_reading *read)
 {
-    uint64_t found[LLUNARETH_BUILDING_VALUES] = {0};
-    uint64_t returned = llunareth_judge_building(read + LLUNARETH_READ_HEADER, LLUNARETH_HEADER_NUMBERS, storeys,
-                                                 (size_t)read[LLUNARETH_READ_STOREY_ROWS], members,
-                                                 (size_t)read[LLUNARETH_READ_MEMBER_ROWS], found, LLUNARETH_BUILDING_VALUES);
-    if (returned != 0) {
+    struct llunareth_building_finding found;
+    uint64_t returned = llunareth_judge_building((const uint64_t *)&read->header, LLUNARETH_HEADER_NUMBERS, storeys,
+                                                 (size_t)read->storey_rows, members, (size_t)read->member_rows, (uint64_t *)&found,
+                                                 LLUNARETH_BUILDING_VALUES);
+    if (returned != LLUNARETH_ACCEPTED) {
         return print_refusal(LLUNARETH_REFUSAL(returned), LLUNARETH_LINE(returned));
     }
-    return print_verdict(read[LLUNARETH_READ_FORM], found);
+    return print_verdict(read->header.form, &found);
 }
 
 /* Reads and judges the first bytes of `file`. */
 static int determine(size_t length)
 {
     if (length > LLUNARETH_FILE_MOST) {
-        return print_refusal(TOO_LONG, 0);
+        return print_refusal(LLUNARETH_TOO_LARGE, 0);
     }
-    uint64_t read[LLUNARETH_READ_VALUES] = {0};
-    uint64_t returned =
-        llunareth_read(file, length, storeys, LLUNARETH_STOREY_ROWS, members, LLUNARETH_MEMBER_ROWS, read, LLUNARETH_READ_VALUES);
-    if (returned != 0) {
+    struct llunareth_reading read;
+    uint64_t returned = llunareth_read(file, length, storeys, LLUNARETH_STOREY_ROWS, members, LLUNARETH_MEMBER_ROWS, (uint64_t *)&read,
+                                       LLUNARETH_READ_VALUES);
+    if (returned != LLUNARETH_ACCEPTED) {
         return print_refusal(LLUNARETH_REFUSAL(returned), LLUNARETH_LINE(returned));
     }
-    return judge(read);
+    return judge(&read);
 }
 
 static int fail(const char *what)
