@@ -57,13 +57,13 @@ static void print_case_line(uint64_t storey, size_t c, const struct llunareth_st
     put("members", f->members);
     put("over_shear", f->over_shear);
     put("shear", f->shear);
-    put("risky", f->risky);
+    put("allowed_num", f->allowed_num);
+    put("allowed_den", f->allowed_den);
     put("walls_suffice", f->walls_suffice);
     put("by_share", f->by_share);
     put("by_one_over", f->by_one_over);
     put("by_damage", f->by_damage);
-    put("allowed_num", f->allowed_num);
-    put("allowed_den", f->allowed_den);
+    put("risky", f->risky);
     putchar('\n');
 }
 
@@ -78,11 +78,11 @@ static void print_member_line(uint64_t storey, size_t c, uint64_t number, const 
     put("m_limit", f->m_limit);
     put("rotation", f->rotation);
     put("rotation_limit", f->rotation_limit);
-    put("over", f->over);
     put("nd", f->nd);
     put("m_dropped", f->m_dropped);
     put("over_m", f->over_m);
     put("over_rotation", f->over_rotation);
+    put("over", f->over);
     putchar('\n');
 }
 

@@ -53,8 +53,8 @@ static const char *class_name(uint64_t member_class)
 
 static void print_heading(void)
 {
-    puts("   Member  Class          m          limit      over by    rotation  limit     over by   n_D");
-    puts("                                                           rad       rad       rad");
+    puts("   Member  Class      m          limit      over by   rotation  limit     over by    n_D");
+    puts("                                                      rad       rad       rad");
 }
 
 /* m, its limit, and by how much it is over. */
