@@ -66,7 +66,7 @@ for (const name of refused) {
     const [, refusal, line] = sheetOf(name).match(/^E +(\d+) +(\d+)\n$/);
     const { title, inside } = pageOf(sheetOf(name));
     assert.equal(title, 'Refused');
-    assert.ok(inside.includes(`Refused by ${refusal}${line === '0' ? '' : ` at line ${line} of the survey`}: ${REFUSALS[refusal]}.`), inside);
+    assert.ok(inside.includes(`Refusal ${refusal}${line === '0' ? '' : `, at line ${line} of the survey`}: ${REFUSALS[refusal]}.`), inside);
     assert.deepEqual(pageOf(detailsOf(name)), { title, inside });
   });
 }
@@ -164,7 +164,7 @@ test('a limit of 0', () => {
 
 test('a storey\'s share, total, mean and condition', () => {
   const part = sharePart(readText(detailsOf('plain-block')).storeys[0].cases[0]);
-  for (const pair of [['P of W', '270.0 kN of 900.0 kN: 0.3000'], ['Allowed share', '0.2466'], ['Σ', '1.05'], ['c', '4'], ['mean n<sub>D</sub>', '0.2625'],
+  for (const pair of [['P / W', '270.0 kN / 900.0 kN = 0.3000'], ['Allowed share', '0.2466'], ['Σ', '1.05'], ['c', '4'], ['mean n<sub>D</sub>', '0.2625'],
     ['0.40 condition', 'not met']]) {
     assert.ok(part.includes(`<dt>${pair[0]}</dt><dd>${pair[1]}</dd>`), pair[0]);
   }
