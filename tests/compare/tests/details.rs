@@ -318,19 +318,41 @@ fn details_of_the_samples() {
     }
 }
 
+/// What stands in some table of the generated files.
+const COMES_UP: [&str; 14] = [
+    "column A",
+    "column B",
+    "column C",
+    "wall A",
+    "wall B",
+    "OVER",
+    "dropped",
+    "99.99999+",
+    "condition met",
+    ", case 4",
+    "Risky: by the share\n",
+    "Risky: by one member over\n",
+    "Risky: by damage\n",
+    "by the share, by one member over, by damage\n",
+];
+
 #[test]
 fn details_of_generated_files() {
     let mut rng = Rng::new(SEED);
     let path = own("details_generated.survey");
-    let mut seen = [0; 4];
+    let (mut seen, mut tables) = ([0; 4], String::new());
     for i in 0..400 {
         let file = if i % 4 == 0 { write_survey(&valid_survey(&mut rng)) } else { any_file(&mut rng) };
         fs::write(&path, file).expect("written");
         let last = same_details(&path);
         let kinds = ["Not Risky: ", "Risky: storey", "Risky: the larger", "refused: "];
         seen[kinds.iter().position(|kind| last.starts_with(kind)).expect("a kind of line")] += 1;
+        tables += &by_name(&["table"], &path).0;
     }
     assert!(seen.iter().all(|&n| n > 0), "every kind comes up: {seen:?}");
+    for words in COMES_UP {
+        assert!(tables.contains(words), "{words} comes up");
+    }
 }
 
 /// The sheet's lines stand in the text: the same numbers in the same order.
