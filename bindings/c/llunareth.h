@@ -1,10 +1,11 @@
 /*
- * The calls of Llunareth for programs in C (C99 and later) and C++. Link with crates/exports/out/libexports.a, which `rt lib` in crates/exports
- * makes. docs/CALLS.md has the calls and their refusals; docs/FORMAT.md has the survey file and the fields with their units and ranges;
- * docs/SPECTRUM.md has the codes and units of sites and spectra.
+ * The calls of Llunareth for programs in C (C99 and later) and C++ (C++11 and later). Link with libllunareth.a of an installed copy, or with
+ * crates/exports/out/libexports.a of the repository, which `rt lib` in crates/exports makes: the same library. CALLS.md has the calls and
+ * their refusals, and how to install and link; FORMAT.md has the survey file and the fields with their units and ranges; SPECTRUM.md has the
+ * codes and units of sites and spectra.
  *
- * A buffer is handed over as a pointer and the number of its elements. The pointer is not null, also where there are none, and a buffer that
- * a call may change overlaps no other.
+ * A buffer is handed over as a pointer and the number of its elements. The pointer is not null, also where there are none, rows and numbers
+ * stand at addresses that 8 divides, and a buffer that a call may change overlaps no other.
  *
  * A record handed in as numbers has them in the order of its struct, a header those of the B line and then its form. A number that is not
  * given is refused; numbers past the last are not looked at. A struct is handed in as numbers by (const uint64_t *)&row, and one is lent as
@@ -52,7 +53,7 @@ enum {
     LLUNARETH_WALL_B = 5
 };
 
-/* The refusals by their numbers (docs/REFUSALS.md); 10 and 13 are not used. */
+/* The refusals by their numbers (REFUSALS.md); 10 and 13 are not used. */
 enum {
     LLUNARETH_ACCEPTED = 0,          /* none */
     LLUNARETH_STRUCTURE = 1,         /* a line is not of the kind or length due there, or absent; a count is not the rows given */
@@ -87,7 +88,7 @@ enum {
     LLUNARETH_FORCE_SCALE = 10          /* kN: forces (N_D and N_K after LLUNARETH_ZERO_FORCE is taken away); kNm: moments */
 };
 
-/* The same of sites and spectra (docs/SPECTRUM.md). */
+/* The same of sites and spectra (SPECTRUM.md). */
 enum {
     LLUNARETH_MAP_SCALE = 100,         /* 1: the map coefficients S_S and S_1 */
     LLUNARETH_FACTOR_SCALE = 1000,     /* 1: F_S and F_1 */
@@ -152,7 +153,7 @@ struct llunareth_load_case {
 #define LLUNARETH_NO_CASE {LLUNARETH_ZERO_FORCE, 0, 0, 0, 0, 0, 0, 0}
 
 /*
- * The M line: a column or a wall. Lengths are in mm. The names are those of docs/CALLS.md, but for long_side and short_side: long and short
+ * The M line: a column or a wall. Lengths are in mm. The names are those of CALLS.md, but for long_side and short_side: long and short
  * are words of C.
  */
 struct llunareth_member {

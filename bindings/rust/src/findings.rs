@@ -4,7 +4,51 @@ use crate::{CASES, FOUR_CASES};
 use std::fmt;
 use std::ops::Deref;
 
-/// A refusal by its number (docs/REFUSALS.md), with the line when reading, else line 0.
+/// The refusals by their numbers (REFUSALS.md); 10 and 13 are not used. A line is not of the kind or length due there, or absent; a count
+/// is not that of the rows.
+pub const STRUCTURE: u64 = 1;
+
+/// A field is not written as it must be.
+pub const SPELLING: u64 = 2;
+
+/// A number is outside its range.
+pub const OUT_OF_RANGE: u64 = 3;
+
+/// The short side is above the long side.
+pub const SIDES_EXCHANGED: u64 = 4;
+
+/// A storey's or a member's number stands twice.
+pub const NUMBER_REPEATED: u64 = 5;
+
+/// Something follows the last line.
+pub const TRAILING_BYTES: u64 = 6;
+
+/// The building is above 30 m or 10 storeys.
+pub const NOT_LOW_RISE: u64 = 7;
+
+/// There are more records than rows lent, or the file is longer than [`determine`](crate::determine) takes.
+pub const TOO_LARGE: u64 = 8;
+
+/// The sheet is longer than the bytes lent.
+pub const SHEET_TOO_LONG: u64 = 9;
+
+/// The file to be written is longer than the bytes lent.
+pub const FILE_TOO_LONG: u64 = 11;
+
+/// The D lines of a member are not numbered 1, 2, 3, 4.
+pub const CASE_MISNUMBERED: u64 = 12;
+
+/// There is no spectrum for a map coefficient or a period.
+pub const OUTSIDE_MAP: u64 = 14;
+
+/// The classes of members.
+pub const COLUMN_A: u64 = 1;
+pub const COLUMN_B: u64 = 2;
+pub const COLUMN_C: u64 = 3;
+pub const WALL_A: u64 = 4;
+pub const WALL_B: u64 = 5;
+
+/// A refusal by its number ([`STRUCTURE`] to [`OUTSIDE_MAP`], REFUSALS.md), with the line when reading, else line 0.
 #[derive(Clone, Copy, Debug, PartialEq, Eq, Hash)]
 pub struct Refusal {
     pub number: u64,
@@ -55,7 +99,7 @@ impl<T> Deref for Cases<T> {
 /// ([`ROTATION_SCALE`](crate::ROTATION_SCALE)).
 #[derive(Clone, Copy, Debug, PartialEq, Eq, Hash)]
 pub struct MemberFinding {
-    /// 1 to 3 columns A to C, 4 and 5 walls A and B.
+    /// [`COLUMN_A`] to [`WALL_B`].
     pub class: u64,
     pub m: u64,
     pub m_limit: u64,

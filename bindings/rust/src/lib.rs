@@ -1,6 +1,6 @@
 //! The proved calls of Llunareth for programs in Rust: read a survey file, check a record, judge a member, a storey and a building, write the
-//! report, write a survey as a file, find a site's coefficients and its spectrum. docs/CALLS.md has the calls and their refusals, docs/FORMAT.md
-//! the survey file and its fields, docs/SPECTRUM.md the codes and units of sites and spectra.
+//! report, write a survey as a file, find a site's coefficients and its spectrum. CALLS.md has the calls and their refusals, FORMAT.md
+//! the survey file and its fields, SPECTRUM.md the codes and units of sites and spectra.
 //!
 //! No call relies on checks made before it: every file and record, good or bad, yields an answer or a refusal. Every call panics where the
 //! linked library has another form of the calls than this package knows ([`raw::VERSION`]).
@@ -9,10 +9,14 @@ pub mod raw;
 mod records;
 mod spectrum;
 
-pub use findings::{BuildingFinding, Cases, MemberFinding, Refusal, StoreyCaseFinding, StoreyFinding};
+pub use findings::{
+    BuildingFinding, Cases, MemberFinding, Refusal, StoreyCaseFinding, StoreyFinding, CASE_MISNUMBERED, COLUMN_A, COLUMN_B, COLUMN_C,
+    FILE_TOO_LONG, NOT_LOW_RISE, NUMBER_REPEATED, OUTSIDE_MAP, OUT_OF_RANGE, SHEET_TOO_LONG, SIDES_EXCHANGED, SPELLING, STRUCTURE, TOO_LARGE,
+    TRAILING_BYTES, WALL_A, WALL_B,
+};
 pub use records::{
-    Header, LoadCase, Member, Storey, Survey, CASES, CASE_NUMBERS, FORCE_SCALE, FOUR_CASES, HEADER_NUMBERS, MEMBER_NUMBERS, OLD_FORM, RATIO_SCALE,
-    ROTATION_SCALE, SHEET_MOST, STOREY_NUMBERS, WRITE_MOST, ZERO_FORCE,
+    force, signed_force, Header, LoadCase, Member, Storey, Survey, CASES, CASE_NUMBERS, FORCE_SCALE, FOUR_CASES, HEADER_NUMBERS, MEMBER_NUMBERS,
+    OLD_FORM, RATIO_SCALE, ROTATION_SCALE, SHEET_MOST, STOREY_NUMBERS, WRITE_MOST, ZERO_FORCE,
 };
 pub use spectrum::{site_coefficients, spectrum, Motion, SiteFinding, FACTOR_SCALE, MAP_SCALE, PERIOD_SCALE, SPECTRUM_SCALE};
 

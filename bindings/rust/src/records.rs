@@ -1,7 +1,24 @@
-//! The records of a survey, laid out as the proved library has them. Ranges stand in docs/FORMAT.md.
+//! The records of a survey, laid out as the proved library has them. Ranges stand in FORMAT.md.
 
 /// N_D and N_K are counted from -20,000,000: this number stands for 0. A force handed in as it is, is refused by 3.
 pub const ZERO_FORCE: u64 = 20_000_000;
+
+/// The number that stands for a force, N_D or N_K in 0.1 kN. A force below -20,000,000 gives 0; that number, and every other that stands for a
+/// force outside its range, is refused by 3.
+///
+/// ```
+/// use llunareth::{force, signed_force, ZERO_FORCE};
+/// assert_eq!((force(0), force(-1_250), force(i64::MIN)), (ZERO_FORCE, 19_998_750, 0));
+/// assert_eq!((signed_force(19_998_750), signed_force(u64::MAX)), (-1_250, i64::MAX));
+/// ```
+pub fn force(tenths: i64) -> u64 {
+    ZERO_FORCE.saturating_add_signed(tenths)
+}
+
+/// The force that a number stands for, in 0.1 kN; [`i64::MAX`] where the force is above that.
+pub fn signed_force(number: u64) -> i64 {
+    i64::try_from(i128::from(number) - i128::from(ZERO_FORCE)).unwrap_or(i64::MAX)
+}
 
 /// A ratio divided by this is the ratio itself: m and its limit, n_D, Σ.
 pub const RATIO_SCALE: u64 = 100_000;
@@ -96,7 +113,7 @@ pub struct Member {
     pub factor: u64,
     /// Worst damage kind, 0 to 4.
     pub damage: u64,
-    /// N_D, counted from -20,000,000 ([`ZERO_FORCE`]).
+    /// N_D, counted from -20,000,000 ([`force`], [`signed_force`]).
     pub nd: u64,
     /// Detailed to annex E, 0 or 1; only a strengthened wall reads it.
     pub annex_e: u64,
@@ -108,7 +125,7 @@ pub struct Member {
 #[repr(C)]
 #[derive(Clone, Copy, Debug, Default, PartialEq, Eq, Hash)]
 pub struct LoadCase {
-    /// N_K, counted from -20,000,000 ([`ZERO_FORCE`]).
+    /// N_K, counted from -20,000,000 ([`force`], [`signed_force`]).
     pub nk: u64,
     /// M_e, moment demand.
     pub me: u64,

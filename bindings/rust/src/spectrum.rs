@@ -1,4 +1,4 @@
-//! Site coefficients and the spectrum. docs/SPECTRUM.md has the codes of site classes and uses, and the units.
+//! Site coefficients and the spectrum. SPECTRUM.md has the codes of site classes and uses, and the units.
 use crate::{raw, values, Refusal};
 
 /// A map coefficient S_S or S_1 divided by this is the coefficient itself.

@@ -1,8 +1,10 @@
 //! The proved library called from Rust, and its answers as the independent program's types.
 pub mod picture;
+pub mod programs;
 pub mod samples;
 pub mod spectrum;
 pub mod surveys;
+pub mod table;
 
 use generator::{edge_member_for, file_len, one_case, sheet_len, Rng};
 use independent::lines::{cases_of, BEFORE_CASE, CASES, CASE_FORM, LOAD_CASE, MEMBER, OLD_FORM};
@@ -244,7 +246,13 @@ pub fn told_member(f: &independent::MemberFinding) -> MemberFinding {
     }
 }
 
-/// The same of a storey. Of the allowed share the proved library tells two numbers with that quotient: these.
+/// The values of a finding, in their order.
+pub fn member_values(f: MemberFinding) -> [u64; raw::FINDING_VALUES] {
+    let flags = [f.m_dropped, f.over_m, f.over_rotation].map(u64::from);
+    [f.class, f.m, f.m_limit, f.rotation, f.rotation_limit, f.over.into(), f.nd, flags[0], flags[1], flags[2]]
+}
+
+/// What is found of a storey, as the proved library tells it. Of the allowed share the proved library tells two numbers with that quotient: these.
 pub fn told_storey(s: &independent::StoreyFinding, i: usize, share: (u64, u64)) -> StoreyCaseFinding {
     let f = s.cases[i];
     StoreyCaseFinding {

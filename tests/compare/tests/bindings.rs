@@ -1,6 +1,7 @@
 //! The header for C and C++ and the program `verdict`, over the proved library, against the independent program.
+use compare::programs::{self, compile_text, compiler, languages, outcome, said};
 use compare::{
-    by_storey, header_numbers, in_four_cases, judge_building, judge_storey, member_numbers, member_rows, plain_column, refusal_told, same_building,
+    by_storey, header_numbers, in_four_cases, judge_building, judge_storey, member_numbers, member_rows, member_values, plain_column, refusal_told, same_building,
     same_member, samples, storey_numbers, told_member, told_storey, worked_example,
 };
 use generator::{
@@ -8,62 +9,25 @@ use generator::{
 };
 use independent::lines::OLD_FORM;
 use independent::{Header, LoadCase, Member, Motion, Storey, Survey};
-use llunareth::{raw, MemberFinding, StoreyCaseFinding};
+use llunareth::{raw, StoreyCaseFinding};
 use std::fs::{self, File};
-use std::io::Write;
 use std::path::{Path, PathBuf};
-use std::process::{Command, Output, Stdio};
+use std::process::{Command, Stdio};
 use std::sync::OnceLock;
 
 const SEED: u64 = 20_260_120;
-
-fn root() -> PathBuf {
-    Path::new(env!("CARGO_MANIFEST_DIR")).join("../..")
-}
 
 /// A file in the folder of these tests' own files.
 fn own(name: &str) -> PathBuf {
     Path::new(env!("CARGO_TARGET_TMPDIR")).join(name)
 }
 
-// ---- compiling ----
-
-/// A compiler that finds the header and takes every warning for an error.
-fn compiler(name: &str, standard: &str) -> Command {
-    let mut command = Command::new(name);
-    command.args([standard, "-Wall", "-Wextra", "-Wpedantic", "-Werror", "-I"]).arg(root().join("bindings/c"));
-    command
-}
-
-fn said(output: &Output) -> String {
-    String::from_utf8_lossy(&output.stderr).into_owned()
-}
-
 /// Builds a program of one file over the header and the proved library.
 fn build(compiler: &mut Command, source: &str, program: &str) -> PathBuf {
-    let (source, library) = (root().join(source), root().join("crates/exports/out/libexports.a"));
-    let output = compiler.args([source, library]).arg("-o").arg(own(program)).output().expect("the compiler starts");
-    assert!(output.status.success(), "{}", said(&output));
-    own(program)
+    programs::build(compiler, source, own(program))
 }
 
-/// What the compiler says of a text.
-fn compile_text(compiler: &mut Command, language: &str, text: &str) -> Output {
-    compiler.args(["-fsyntax-only", "-x", language, "-"]).stdin(Stdio::piped()).stderr(Stdio::piped());
-    let mut child = compiler.spawn().expect("the compiler starts");
-    child.stdin.take().expect("a pipe").write_all(text.as_bytes()).expect("the text is read");
-    child.wait_with_output().expect("the compiler ends")
-}
-
-fn is_there(compiler: &str) -> bool {
-    Command::new(compiler).arg("--version").output().is_ok()
-}
-
-/// Compiler, standard and language of the header, as far as the compilers are there.
-fn languages() -> Vec<(&'static str, &'static str, &'static str)> {
-    let all = [("gcc", "-std=c99", "c"), ("gcc", "-std=c11", "c"), ("g++", "-std=c++11", "c++")];
-    all.into_iter().filter(|(name, ..)| *name == "gcc" || is_there(name)).collect()
-}
+// ---- the header by itself ----
 
 #[test]
 fn the_header_alone() {
@@ -89,11 +53,6 @@ fn the_header_asserts_the_sizes_of_its_structs() {
 fn verdict() -> Command {
     static PROGRAM: OnceLock<PathBuf> = OnceLock::new();
     Command::new(PROGRAM.get_or_init(|| build(&mut compiler("gcc", "-std=c99"), "bindings/c/verdict.c", "verdict")))
-}
-
-/// What a run printed, and its exit status.
-fn outcome(output: Output) -> (String, Option<i32>) {
-    (String::from_utf8(output.stdout).expect("text"), output.status.code())
 }
 
 fn by_name(path: &Path) -> (String, Option<i32>) {
@@ -241,12 +200,7 @@ fn line(word: &str, numbers: &[u64]) -> String {
     format!("{word}{numbers}\n")
 }
 
-/// The values of a finding, in their order.
-fn member_values(f: MemberFinding) -> [u64; raw::FINDING_VALUES] {
-    let flags = [f.m_dropped, f.over_m, f.over_rotation].map(u64::from);
-    [f.class, f.m, f.m_limit, f.rotation, f.rotation_limit, f.over.into(), f.nd, flags[0], flags[1], flags[2]]
-}
-
+/// The values of what is found of a storey in a case, in their order.
 fn storey_values(f: StoreyCaseFinding) -> [u64; raw::STOREY_CASE_VALUES] {
     let [risky, met, share, one, damage] = [f.risky, f.walls_suffice, f.by_share, f.by_one_over, f.by_damage].map(u64::from);
     [f.axial_total, f.members, f.over_shear, f.shear, risky, met, share, one, damage, f.allowed_num, f.allowed_den]

@@ -207,3 +207,43 @@ fn a_file_written_and_refused() {
         }
     }
 }
+
+// ---- where bytes stand ----
+
+/// Bytes at an address that is so much above one that 8 divides.
+fn at_offset(room: &mut [u64], offset: usize, len: usize) -> &mut [u8] {
+    // Sound: the bytes lie within the words, and any byte may stand there.
+    let bytes = unsafe { std::slice::from_raw_parts_mut(room.as_mut_ptr().cast::<u8>(), 8 * room.len()) };
+    &mut bytes[offset..offset + len]
+}
+
+/// What is read and printed for a file whose bytes stand at an offset, and the file and the sheet written at it.
+fn at(offset: usize, file: &[u8]) -> (u64, Vec<u64>, Vec<u8>, Vec<u8>, Vec<u8>) {
+    let (mut from, mut to) = (vec![0u64; 10_000], vec![0u64; 10_000]);
+    let from = at_offset(&mut from, offset, file.len());
+    from.copy_from_slice(file);
+    let ((mut storeys, mut members), mut out) = (marked_rows(3, 4), marks(raw::READ_VALUES));
+    let returned = raw::read(from, &mut storeys, &mut members, &mut out);
+    let printed = raw::determine(from, at_offset(&mut to, offset, 40_000));
+    let printed = at_offset(&mut to, offset, printed).to_vec();
+    let (storeys, members) = (&storeys[..out[7] as usize], &members[..out[8] as usize]);
+    let mut lengths = [0, 0];
+    raw::report(&out[..7], storeys, members, at_offset(&mut to, offset, 40_000), &mut lengths[..1]);
+    let sheet = at_offset(&mut to, offset, lengths[0] as usize).to_vec();
+    raw::write(&out[..7], storeys, members, at_offset(&mut to, offset, 40_000), &mut lengths[1..]);
+    let written = at_offset(&mut to, offset, lengths[1] as usize).to_vec();
+    (returned, out, printed, sheet, written)
+}
+
+/// At an address that 8 divides and at the seven after it.
+#[test]
+fn bytes_at_any_address() {
+    for (survey, sheet) in worked_examples() {
+        let file = write_survey(&survey);
+        for offset in 0..8 {
+            let (returned, out, printed, reported, written) = at(offset, &file);
+            assert_eq!((returned, out[7], out[8]), (0, 1, 2), "offset {offset}");
+            assert_eq!((printed, reported, written), (sheet.as_bytes().to_vec(), sheet.as_bytes().to_vec(), file.clone()), "offset {offset}");
+        }
+    }
+}

@@ -1,0 +1,106 @@
+//! The example programs `members` in C, C++ and Rust print the same table, which is that of the independent program's answers.
+use compare::programs::{build, cargo, compiler, is_there, root, run_on, said};
+use compare::{by_storey, member_values, samples, table, told_member};
+use generator::{any_file, valid_survey, write_survey, Rng};
+use independent::lines::CASES;
+use std::fs;
+use std::path::{Path, PathBuf};
+use std::sync::OnceLock;
+
+const SEED: u64 = 20_260_701;
+
+/// A file in the folder of these tests' own files.
+fn own(name: &str) -> PathBuf {
+    Path::new(env!("CARGO_TARGET_TMPDIR")).join(name)
+}
+
+/// The example of the Rust package.
+fn in_rust() -> PathBuf {
+    let built = own("examples");
+    let output = cargo("build", &root().join("bindings/rust/Cargo.toml"), &built).args(["--example", "members"]).output().expect("cargo starts");
+    assert!(output.status.success(), "{}", said(&output));
+    built.join("debug/examples/members")
+}
+
+/// The examples, that in C++ where its compiler is there.
+fn examples() -> &'static [PathBuf] {
+    static PROGRAMS: OnceLock<Vec<PathBuf>> = OnceLock::new();
+    PROGRAMS.get_or_init(|| {
+        let mut programs = vec![build(&mut compiler("gcc", "-std=c99"), "bindings/c/members.c", own("members_c")), in_rust()];
+        if is_there("g++") {
+            programs.push(build(&mut compiler("g++", "-std=c++11"), "bindings/c/members.cpp", own("members_cpp")));
+        }
+        programs
+    })
+}
+
+/// Panics unless every example prints the table of a file or its refusal; what they print.
+fn same_table(path: &Path) -> String {
+    let (expected, status) = table::printed(&fs::read(path).expect("a file"));
+    for program in examples() {
+        assert_eq!(run_on(program, path), (expected.clone(), Some(status)), "{} < {}", program.display(), path.display());
+    }
+    expected
+}
+
+#[test]
+fn the_samples() {
+    let printed: String = samples::names(".survey").iter().map(|name| same_table(&samples::folder().join(format!("{name}.survey")))).collect();
+    for word in ["column A", "column B", "column C", "wall A", "wall B", " yes\n", " no\n", "refused: 4 at line 9\n", "    4  wall A"] {
+        assert!(printed.contains(word), "{word}");
+    }
+}
+
+#[test]
+fn generated_files() {
+    let mut rng = Rng::new(SEED);
+    let good = (0..60).map(|_| write_survey(&valid_survey(&mut rng))).collect::<Vec<_>>();
+    let path = own("members.survey");
+    for file in (0..200).map(|_| any_file(&mut rng)).chain(good).chain([Vec::new()]) {
+        fs::write(&path, file).expect("written");
+        same_table(&path);
+    }
+}
+
+// ---- the listing of docs/CALLS.md ----
+
+/// The lines of the listing: those of the section on the order of calls that are set in.
+fn listing() -> String {
+    let page = fs::read_to_string(root().join("docs/CALLS.md")).expect("the page");
+    let (_, section) = page.split_once("## The order of calls\n").expect("the section");
+    let (section, _) = section.split_once("\n## ").expect("its end");
+    section.lines().filter(|line| line.starts_with("    ")).map(|line| format!("{line}\n")).collect()
+}
+
+/// What listing.c prints for a file, and its exit status.
+fn listed(file: &[u8]) -> (String, i32) {
+    let survey = match independent::read(file, 10, 2_000) {
+        Ok(survey) => survey,
+        Err(refusal) => return (format!("refused {}\n", refusal.number), 1),
+    };
+    let (k, form) = (survey.header.knowledge, survey.header.form);
+    let (storey, own) = by_storey(&survey).pop().expect("a storey");
+    let of_storey = independent::judge_storey(k, form, &storey, own).expect("accepted");
+    let met: [bool; CASES] = std::array::from_fn(|c| of_storey.cases.get(c).is_some_and(|case| case.meets_wall_share));
+    let of_member = independent::judge_member(k, form, met, own.last().expect("a member")).expect("accepted")[0];
+    let b = independent::judge_building(&survey.header, &survey.storeys, &survey.members).expect("accepted");
+    let line = |word: &str, numbers: &[u64]| numbers.iter().fold(word.to_string(), |line, n| format!("{line} {n}")) + "\n";
+    let lines = [
+        line("storey", &[of_storey.risky.into()]),
+        line("member", &member_values(told_member(&of_member))),
+        line("building", &[b.tilt_above.into(), b.risky.into(), b.place, b.case]),
+    ];
+    (lines.concat(), 0)
+}
+
+#[test]
+fn the_listing_of_the_page_of_the_calls() {
+    fs::write(own("listing.inc"), listing()).expect("written");
+    let mut compiler = compiler("gcc", "-std=c99");
+    let program = build(compiler.arg("-I").arg(env!("CARGO_TARGET_TMPDIR")), "tests/compare/c/listing.c", own("listing"));
+    for name in samples::names(".survey") {
+        let path = samples::folder().join(format!("{name}.survey"));
+        let (lines, status) = listed(&fs::read(&path).expect("a file"));
+        assert_eq!(run_on(&program, &path), (lines, Some(status)), "{name}");
+    }
+}

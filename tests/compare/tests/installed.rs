@@ -1,0 +1,339 @@
+//! An installed copy outside the repository: its files, programs built and run from it, how the library is found, and what the library takes of
+//! a program.
+use compare::programs::{cargo, is_there, outcome, root, run_on, said, strict};
+use compare::{samples, table};
+use llunareth::raw::VERSION;
+use std::ffi::OsStr;
+use std::fs;
+use std::path::{Path, PathBuf};
+use std::process::{Command, Output};
+
+/// A new folder outside the repository, which is taken away at the end.
+struct Outside(PathBuf);
+
+impl Outside {
+    fn new(name: &str) -> Outside {
+        let folder = std::env::temp_dir().join(format!("llunareth-{name}-{}", std::process::id()));
+        fs::create_dir_all(&folder).expect("a folder");
+        let folder = folder.canonicalize().expect("a folder");
+        assert!(!folder.starts_with(root().canonicalize().expect("the repository")), "{} is in the repository", folder.display());
+        Outside(folder)
+    }
+
+    fn join(&self, name: &str) -> PathBuf {
+        self.0.join(name)
+    }
+
+    /// A program started in this folder.
+    fn start(&self, program: &str, args: impl IntoIterator<Item = impl AsRef<OsStr>>) -> Output {
+        Command::new(program).args(args).current_dir(&self.0).output().unwrap_or_else(|e| panic!("{program}: {e}"))
+    }
+}
+
+impl Drop for Outside {
+    fn drop(&mut self) {
+        let _ = fs::remove_dir_all(&self.0);
+    }
+}
+
+fn assert_done(output: &Output) {
+    assert!(output.status.success(), "{}{}", String::from_utf8_lossy(&output.stdout), said(output));
+}
+
+/// The install script of a copy of the repository.
+fn install(repository: &Path, args: &[String]) -> Output {
+    Command::new("bash").arg(repository.join("bindings/install")).args(args).output().expect("bash starts")
+}
+
+/// A folder with an installed copy in `installed`.
+fn installed(name: &str) -> Outside {
+    let outside = Outside::new(name);
+    assert_done(&install(&root(), &[format!("PREFIX={}", outside.join("installed").display())]));
+    outside
+}
+
+/// The paths of all files under a folder.
+fn files(folder: &Path) -> Vec<PathBuf> {
+    let entries = fs::read_dir(folder).into_iter().flatten().map(|entry| entry.expect("an entry").path());
+    entries.flat_map(|path| if path.is_dir() { files(&path) } else { vec![path] }).collect()
+}
+
+// ---- programs ----
+
+/// A line of the file for pkg-config, with its folders put in.
+fn flags_line(outside: &Outside, word: &str) -> Vec<String> {
+    let text = fs::read_to_string(outside.join("installed/lib/pkgconfig/llunareth.pc")).expect("the file for pkg-config");
+    let value = |name: &str, mark: &str| {
+        text.lines().find_map(|line| line.strip_prefix(name)?.strip_prefix(mark)).unwrap_or_else(|| panic!("no {name}")).trim().to_string()
+    };
+    let put_in = |value: String, name: &str, by: &str| value.replace(&format!("${{{name}}}"), by);
+    let prefix = value("prefix", "=");
+    let (include, lib) = (put_in(value("includedir", "="), "prefix", &prefix), put_in(value("libdir", "="), "prefix", &prefix));
+    put_in(put_in(value(word, ":"), "includedir", &include), "libdir", &lib).split(' ').map(String::from).collect()
+}
+
+/// The flags of the compiler, as pkg-config gives them where it is there.
+fn flags(outside: &Outside) -> Vec<String> {
+    let flags = [flags_line(outside, "Cflags"), flags_line(outside, "Libs")].concat();
+    if is_there("pkg-config") {
+        let told = Command::new("pkg-config").args(["--cflags", "--libs", "llunareth"]).env("PKG_CONFIG_PATH", outside.join("installed/lib/pkgconfig")).output();
+        let told = outcome(told.expect("pkg-config starts")).0;
+        assert_eq!(told.split_whitespace().collect::<Vec<_>>(), flags);
+    }
+    assert_eq!(flags_line(outside, "Version"), [VERSION.to_string()]);
+    flags
+}
+
+/// An installed example built in the folder by a compiler and these flags.
+fn example(outside: &Outside, (compiler, standard): (&str, &str), source: &str, flags: &[String], program: &str) -> PathBuf {
+    let source = outside.join("installed/share/doc/llunareth/examples").join(source);
+    let output = strict(compiler, standard).arg(source).args(flags).args(["-o", program]).current_dir(&outside.0).output();
+    assert_done(&output.expect("the compiler starts"));
+    outside.join(program)
+}
+
+/// A crate in the folder that depends on the installed package, with the installed example as its program.
+fn outside_crate(outside: &Outside) -> PathBuf {
+    let folder = outside.join("own");
+    fs::create_dir_all(folder.join("src")).expect("a folder");
+    let package = outside.join("installed/share/llunareth/rust");
+    let manifest = format!("[package]\nname = \"own\"\nedition = \"2021\"\n\n[dependencies]\nllunareth = {{ path = {package:?} }}\n");
+    fs::write(folder.join("Cargo.toml"), manifest).expect("written");
+    fs::copy(package.join("examples/members.rs"), folder.join("src/main.rs")).expect("copied");
+    folder.join("Cargo.toml")
+}
+
+/// The crate's program, with the library's folder told or not.
+fn in_rust(outside: &Outside, told: Option<&Path>) -> PathBuf {
+    let mut command = cargo("build", &outside_crate(outside), &outside.join("built"));
+    assert_done(&command.envs(told.map(|folder| ("LLUNARETH_LIB_DIR", folder))).current_dir(&outside.0).output().expect("cargo starts"));
+    outside.join("built/debug/own")
+}
+
+/// Panics unless a program prints the tables of the samples.
+fn assert_tables(program: &Path) {
+    for name in samples::names(".survey") {
+        let path = samples::folder().join(format!("{name}.survey"));
+        let (expected, status) = table::printed(&fs::read(&path).expect("a sample"));
+        assert_eq!(run_on(program, &path), (expected, Some(status)), "{} on {name}", program.display());
+    }
+}
+
+#[test]
+fn the_examples_in_c_and_cpp() {
+    let outside = installed("c");
+    let flags = flags(&outside);
+    assert_tables(&example(&outside, ("gcc", "-std=c99"), "members.c", &flags, "members_c"));
+    if is_there("g++") {
+        assert_tables(&example(&outside, ("g++", "-std=c++11"), "members.cpp", &flags, "members_cpp"));
+    }
+}
+
+#[test]
+fn the_example_in_rust() {
+    let outside = installed("rust");
+    assert_tables(&in_rust(&outside, None));
+    let mut package = cargo("build", &outside.join("installed/share/llunareth/rust/Cargo.toml"), &outside.join("built"));
+    assert_done(&package.args(["--example", "members"]).output().expect("cargo starts"));
+    assert_tables(&outside.join("built/debug/examples/members"));
+    fs::create_dir(outside.join("elsewhere")).expect("a folder");
+    fs::rename(outside.join("installed/lib/libllunareth.a"), outside.join("elsewhere/libllunareth.a")).expect("moved");
+    let wrong = cargo("build", &outside_crate(&outside), &outside.join("built")).output().expect("cargo starts");
+    assert!(!wrong.status.success() && said(&wrong).contains("The proved library is not there."), "{}", said(&wrong));
+    assert_tables(&in_rust(&outside, Some(&outside.join("elsewhere"))));
+}
+
+#[test]
+fn the_installed_programs() {
+    let outside = installed("programs");
+    for sample in samples::all() {
+        let path = samples::folder().join(format!("{}.survey", sample.name));
+        let sheet = String::from_utf8(sample.sheet).expect("text");
+        assert_eq!(run_on(&outside.join("installed/bin/determine"), &path), (sheet.clone(), Some(0)), "{}", sample.name);
+        let (line, status) = run_on(&outside.join("installed/bin/verdict"), &path);
+        let expected = if sheet.starts_with('E') { ("refused: ", Some(1)) } else if sheet.ends_with("1\n") { ("Risky: ", Some(0)) } else { ("not Risky\n", Some(0)) };
+        assert!(line.starts_with(expected.0) && status == expected.1, "{}: {line}", sample.name);
+    }
+}
+
+// ---- the script ----
+
+#[test]
+fn installed_under_destdir_and_taken_away() {
+    let outside = Outside::new("destdir");
+    let args = [format!("DESTDIR={}", outside.join("staged").display()), "PREFIX=/opt/llunareth".to_string()];
+    assert_done(&install(&root(), &args));
+    let copy = outside.join("staged/opt/llunareth");
+    let list = fs::read_to_string(copy.join("share/llunareth/installed")).expect("the list");
+    let mut listed: Vec<PathBuf> = list.lines().map(|line| copy.join(line.trim_start_matches("./"))).chain([copy.join("share/llunareth/installed")]).collect();
+    let mut found = files(&copy);
+    listed.sort();
+    found.sort();
+    assert_eq!(found, listed);
+    for name in ["lib/libllunareth.a", "include/llunareth.h", "bin/determine", "bin/verdict", "share/doc/llunareth/CALLS.md"] {
+        assert!(copy.join(name).is_file(), "{name}");
+    }
+    let text = fs::read_to_string(copy.join("lib/pkgconfig/llunareth.pc")).expect("the file for pkg-config");
+    assert!(text.starts_with("prefix=/opt/llunareth\n"), "{text}");
+    fs::write(copy.join("lib/another"), "").expect("written");
+    assert_done(&install(&root(), &[&["uninstall".to_string()], &args[..]].concat()));
+    assert_eq!(files(&copy), [copy.join("lib/another")]);
+    assert!(!copy.join("share/llunareth").exists() && !copy.join("share/doc/llunareth").exists());
+    assert!(!install(&root(), &[&["uninstall".to_string()], &args[..]].concat()).status.success());
+}
+
+/// The targets of the links of a page, without those within it.
+fn links(page: &str) -> Vec<&str> {
+    page.split("](").skip(1).filter_map(|rest| rest.split([')', '#']).next()).filter(|target| !target.is_empty()).collect()
+}
+
+#[test]
+fn the_links_of_the_installed_pages() {
+    let outside = installed("links");
+    let folder = outside.join("installed/share/doc/llunareth");
+    let pages = files(&folder).into_iter().filter(|path| path.extension() == Some(OsStr::new("md")));
+    let texts: Vec<String> = pages.map(|path| fs::read_to_string(path).expect("a page")).collect();
+    assert_eq!(texts.len(), 5);
+    let targets: Vec<&str> = texts.iter().flat_map(|text| links(text)).collect();
+    assert!(targets.contains(&"FORMAT.md") && targets.contains(&"spectrum.svg"));
+    for target in targets {
+        assert!(folder.join(target).is_file(), "{target}");
+    }
+}
+
+/// A copy of the bindings without what is built.
+fn unbuilt(name: &str) -> Outside {
+    let outside = Outside::new(name);
+    for path in files(&root().join("bindings")) {
+        let to = outside.join("bindings").join(path.strip_prefix(root().join("bindings")).expect("a path in it"));
+        fs::create_dir_all(to.parent().expect("a folder")).expect("a folder");
+        fs::copy(path, to).expect("copied");
+    }
+    outside
+}
+
+#[test]
+fn what_is_not_built_is_named_with_its_command() {
+    let outside = unbuilt("unbuilt");
+    let output = install(&outside.0, &[format!("PREFIX={}", outside.join("installed").display())]);
+    let told = "install: no crates/exports/out/libexports.a; this makes it: (cd crates/exports && rt lib)\n\
+                install: no crates/determine/out/determine; this makes it: (cd crates/determine && rt run < ../../samples/plain-block.survey)\n";
+    assert_eq!((said(&output).as_str(), output.status.code()), (told, Some(1)));
+    assert!(!outside.join("installed").exists());
+    let misspelt = install(&root(), &["prefix=/opt".to_string()]);
+    assert_eq!((said(&misspelt).as_str(), misspelt.status.code()), ("install: usage: bindings/install [uninstall] [PREFIX=/usr/local] [DESTDIR=]\n", Some(1)));
+    assert!(!install(&root(), &["PREFIX=installed".to_string()]).status.success());
+}
+
+#[test]
+fn the_rust_package_names_the_command_for_a_library_that_is_not_there() {
+    let outside = unbuilt("package");
+    let manifest = outside.join("bindings/rust/Cargo.toml");
+    let alone = fs::read_to_string(&manifest).expect("a manifest").replace("workspace = \"../../tests\"\n", "");
+    fs::write(&manifest, alone).expect("written");
+    for folder in [None, Some(outside.join("empty"))] {
+        let mut command = cargo("build", &manifest, &outside.join("built"));
+        let output = command.envs(folder.iter().map(|folder| ("LLUNARETH_LIB_DIR", folder))).output().expect("cargo starts");
+        let looked = folder.map_or("crates/exports/out/libexports.a".to_string(), |folder| folder.join("libllunareth.a").display().to_string());
+        assert!(!output.status.success());
+        for words in ["The proved library is not there.", "(cd crates/exports && rt lib)", "LLUNARETH_LIB_DIR", &looked] {
+            assert!(said(&output).contains(words), "{words}: {}", said(&output));
+        }
+    }
+}
+
+// ---- what the library takes of a program ----
+
+/// What a program of binutils prints of the installed library.
+fn told_of(outside: &Outside, program: &str, args: &[&str], file: &str) -> String {
+    let output = outside.start(program, args.iter().chain([&file]));
+    assert_done(&output);
+    outcome(output).0
+}
+
+const CALLS: [&str; 13] = [
+    "llunareth_determine",
+    "llunareth_header_fault",
+    "llunareth_judge_building",
+    "llunareth_judge_member",
+    "llunareth_judge_storey",
+    "llunareth_member_fault",
+    "llunareth_read",
+    "llunareth_report",
+    "llunareth_site_coefficients",
+    "llunareth_spectrum",
+    "llunareth_storey_fault",
+    "llunareth_version",
+    "llunareth_write",
+];
+
+/// The last words of lines, each of a symbol.
+fn symbols(lines: &str) -> Vec<&str> {
+    lines.lines().filter_map(|line| line.split_whitespace().last()).filter(|word| !word.ends_with(".o:")).collect()
+}
+
+#[test]
+fn the_library_defines_the_calls_and_needs_two_of_the_c_library() {
+    let outside = installed("symbols");
+    let library = "installed/lib/libllunareth.a";
+    assert_eq!(symbols(&told_of(&outside, "nm", &["--extern-only", "--defined-only"], library)), CALLS);
+    assert_eq!(symbols(&told_of(&outside, "nm", &["--undefined-only"], library)), ["memcpy", "memset"]);
+}
+
+/// No section of the library that is loaded can be written to: it keeps nothing between calls.
+#[test]
+fn the_library_has_no_data_that_changes() {
+    let outside = installed("sections");
+    let sections = told_of(&outside, "objdump", &["--section-headers", "--wide"], "installed/lib/libllunareth.a");
+    let loaded: Vec<&str> = sections.lines().filter(|line| line.contains("ALLOC") && !line.contains(" 00000000 ")).collect();
+    assert!(loaded.len() > 20, "{sections}");
+    for line in loaded {
+        assert!(line.contains("READONLY"), "{line}");
+    }
+}
+
+/// The commands of docs/CALLS.md for a program and for a shared library, with the folder of this copy in place of theirs.
+fn commands(outside: &Outside) -> Vec<String> {
+    let text = fs::read_to_string(outside.join("installed/share/doc/llunareth/CALLS.md")).expect("the page");
+    let prefix = outside.join("installed").display().to_string();
+    text.lines().filter_map(|line| Some(line.strip_prefix("    gcc ")?.replace("/usr/local", &prefix))).collect()
+}
+
+/// Runs the arguments of gcc by bash in the folder.
+fn gcc(outside: &Outside, arguments: &str) {
+    let mut command = Command::new("bash");
+    command.args(["-c", &format!("gcc {arguments}")]).env("PKG_CONFIG_PATH", outside.join("installed/lib/pkgconfig"));
+    assert_done(&command.current_dir(&outside.0).output().expect("bash starts"));
+}
+
+#[test]
+fn the_commands_of_the_page() {
+    let outside = installed("commands");
+    fs::copy(outside.join("installed/share/doc/llunareth/examples/members.c"), outside.join("members.c")).expect("copied");
+    fs::copy(outside.join("installed/lib/libllunareth.a"), outside.join("libllunareth.a")).expect("copied");
+    let commands = commands(&outside);
+    let [by_pkg_config, by_name, shared] = &commands[..] else { panic!("three commands: {commands:?}") };
+    if is_there("pkg-config") {
+        gcc(&outside, by_pkg_config);
+        assert_tables(&outside.join("members"));
+    }
+    gcc(&outside, by_name);
+    assert_tables(&outside.join("members"));
+    gcc(&outside, shared);
+    let library = format!("libllunareth.so.{VERSION}");
+    assert_eq!(symbols(&told_of(&outside, "nm", &["--dynamic", "--extern-only", "--defined-only"], &library)), CALLS);
+    let flags = ["-Iinstalled/include", &library, "-Wl,-rpath,$ORIGIN"].map(String::from);
+    let program = example(&outside, ("gcc", "-std=c99"), "members.c", &flags, "members_shared");
+    assert!(told_of(&outside, "objdump", &["--private-headers"], "members_shared").contains(&library));
+    assert_tables(&program);
+}
+
+/// Bytes at most, as docs/CALLS.md states them.
+#[test]
+fn sizes() {
+    let outside = installed("sizes");
+    for (name, most) in [("lib/libllunareth.a", 90_000), ("bin/determine", 60_000), ("bin/verdict", 60_000)] {
+        let length = fs::metadata(outside.join("installed").join(name)).expect("a file").len();
+        assert!(0 < length && length <= most, "{name}: {length} bytes");
+    }
+}
