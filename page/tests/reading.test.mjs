@@ -112,8 +112,16 @@ for (const [about, text] of TEXTS) {
     for (const at of lines) assertMessage(changed(text, at, (line) => [line.replace(' ', '  ')]), at + 1);
   });
 
+  test(`${about}: a blank or a digit at the end of any line`, () => {
+    for (const at of lines) {
+      assertMessage(changed(text, at, (line) => [`${line} `]), at + 1);
+      if (!text.startsWith('details')) assertMessage(changed(text, at, (line) => [`${line}0`]), at + 1);
+    }
+  });
+
   test(`${about}: line ends CR LF, in all lines and in one`, () => {
     assertMessage(text.replaceAll('\n', '\r\n'), 1);
+    assert.match(pageOf(text.replaceAll('\n', '\r\n')).inside, /carriage return/);
     for (const at of lines) assertMessage(changed(text, at, (line) => [`${line}\r`]), at + 1);
   });
 

@@ -129,6 +129,35 @@ for (const name of accepted) {
   });
 }
 
+// The bars of a row: for each the parts in their order, class, place and width.
+function bars(row) {
+  const parts = (svg) => [...svg.matchAll(/<rect class="(\w+)" x="([\d.]+)" y="[\d.]+" width="([\d.]+)"/g)].map(([, name, x, width]) => [name, Number(x), Number(width)]);
+  return row.match(/<svg[^]*?<\/svg>/g).map(parts);
+}
+
+// What a bar of 200 with the limit at 120 has of a demand; widths to a tenth.
+function parts(demand, limit, past) {
+  const end = Math.min(200, (120 * demand) / limit);
+  const drawn = [['track', 0, 200], ['within', 0, Math.min(end, 120)], [past, 120, end - 120]];
+  return drawn.filter(([, , width]) => width > 0).map(([name, x, width]) => [name, x, Number(width.toFixed(1))]);
+}
+
+for (const name of accepted) {
+  test(`${name}: the bars are as long as the demands are of their limits`, () => {
+    for (const m of members(readText(detailsOf(name))).filter((member) => member.rotation_limit > 0)) {
+      const due = [parts(m.m, m.m_limit, m.over_m ? 'past' : 'passed'), parts(m.rotation, m.rotation_limit, m.over_rotation ? 'past' : 'passed')];
+      assert.deepEqual(bars(memberRow(m)), due);
+      assert.equal(/class="cut"/.test(memberRow(m)), 120 * m.m > 200 * m.m_limit || 120 * m.rotation > 200 * m.rotation_limit);
+    }
+  });
+}
+
+test('the bar of a share is P of W, its limit the allowed share', () => {
+  const drawn = (storey) => bars(sharePart(readText(detailsOf('plain-block')).storeys[storey].cases[0]))[0];
+  assert.deepEqual(drawn(0), [['track', 0, 200], ['within', 0, 49.3], ['past', 49.3, 10.7]]);
+  assert.deepEqual(drawn(1), [['track', 0, 200], ['within', 0, 40.5]]);
+});
+
 test('a wall past the limit of a dropped test is not shown as over', () => {
   const wall = (survey) => survey.storeys[0].cases[0].list[1];
   const [told, alone] = [wall(readText(detailsOf('walls'))), wall(readText(sheetOf('walls')))];

@@ -1,19 +1,16 @@
 //! The program `details`, its text and its table, over the proved library, against the independent program.
+use compare::programs::{build, compiler, outcome, said};
 use compare::{by_storey, in_four_cases, judge_storey, member_rows, refusal_told, samples, worked_example};
 use generator::{any_file, valid_survey, write_survey, Rng};
 use independent::{BuildingFinding, Fraction, Header, Member, MemberFinding, Storey, StoreyCaseFinding, Survey};
 use llunareth::raw;
 use std::fs::{self, File};
 use std::path::{Path, PathBuf};
-use std::process::{Command, Output, Stdio};
+use std::process::{Command, Stdio};
 use std::sync::atomic::{AtomicUsize, Ordering};
 use std::sync::OnceLock;
 
 const SEED: u64 = 20_261_127;
-
-fn root() -> PathBuf {
-    Path::new(env!("CARGO_MANIFEST_DIR")).join("../..")
-}
 
 /// A file in the folder of these tests' own files.
 fn own(name: &str) -> PathBuf {
@@ -22,27 +19,9 @@ fn own(name: &str) -> PathBuf {
 
 // ---- running it ----
 
-/// Builds the program with more arguments for the compiler.
-fn build(program: &str, more: &[&str]) -> PathBuf {
-    let mut gcc = Command::new("gcc");
-    gcc.args(["-std=c99", "-Wall", "-Wextra", "-Wpedantic", "-Werror", "-I", "bindings/c", "bindings/c/details.c"]).args(more);
-    let output = gcc.arg("crates/exports/out/libexports.a").arg("-o").arg(own(program)).current_dir(root()).output().expect("gcc starts");
-    assert!(output.status.success(), "{}", said(&output));
-    own(program)
-}
-
-fn said(output: &Output) -> String {
-    String::from_utf8_lossy(&output.stderr).into_owned()
-}
-
 fn details() -> Command {
     static PROGRAM: OnceLock<PathBuf> = OnceLock::new();
-    Command::new(PROGRAM.get_or_init(|| build("details", &[])))
-}
-
-/// What a run printed, and its exit status.
-fn outcome(output: Output) -> (String, Option<i32>) {
-    (String::from_utf8(output.stdout).expect("text"), output.status.code())
+    Command::new(PROGRAM.get_or_init(|| build(&mut compiler("gcc", "-std=c99"), "bindings/c/details.c", own("details"))))
 }
 
 /// What is printed by words in front of the file's name.
@@ -525,7 +504,8 @@ fn wrong_usage() {
 fn with_another_version_of_the_library() {
     let other = own("details_other_version.c");
     fs::write(&other, format!("unsigned long __wrap_llunareth_version(void) {{ return {}; }}\n", raw::VERSION + 1)).expect("written");
-    let program = build("details_other", &[other.to_str().expect("text"), "-Wl,--wrap=llunareth_version"]);
+    let mut compiler = compiler("gcc", "-std=c99");
+    let program = build(compiler.arg(other).arg("-Wl,--wrap=llunareth_version"), "bindings/c/details.c", own("details_other"));
     let output = Command::new(program).arg(samples::folder().join("walls.survey")).output().expect("details starts");
     assert_eq!(said(&output), "details: the library has another form of the calls\n");
     assert_eq!(outcome(output), (String::new(), Some(2)));
