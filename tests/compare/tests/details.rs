@@ -1,5 +1,5 @@
 //! The program `details`, its text and its table, over the proved library, against the independent program.
-use compare::programs::{build, compiler, outcome, said};
+use compare::programs::{build, compiler, outcome, root, said};
 use compare::{by_storey, in_four_cases, judge_storey, member_rows, refusal_told, samples, worked_example};
 use generator::{any_file, valid_survey, write_survey, Rng};
 use independent::{BuildingFinding, Fraction, Header, Member, MemberFinding, Storey, StoreyCaseFinding, Survey};
@@ -472,6 +472,55 @@ fn as_many_decimals_as_it_takes_of_the_mean() {
     };
     assert!(mean(585_001).ends_with("a member is over while the mean n_D of 0.65001 is above 0.65."), "{}", mean(585_001));
     assert!(mean(585_000).starts_with("Not Risky"), "{}", mean(585_000));
+}
+
+// ---- the documents ----
+
+/// A part of a document, from its heading to the next of the same depth.
+fn part(document: &str, heading: &str) -> String {
+    let text = fs::read_to_string(root().join("docs").join(document)).expect("a document");
+    let (_, rest) = text.split_once(&format!("\n## {heading}\n")).expect("the heading");
+    rest.split("\n## ").next().expect("a part").into()
+}
+
+/// The lines that are set in by four blanks, without these; commands left out.
+fn listing(part: &str) -> Vec<&str> {
+    let lines = part.lines().filter_map(|line| line.strip_prefix("    "));
+    lines.filter(|line| !line.starts_with("./") && !line.is_empty()).collect()
+}
+
+fn of_sample(word: &str, name: &str) -> String {
+    by_name(&[word], &samples::folder().join(format!("{name}.survey"))).0
+}
+
+#[test]
+fn the_listings_of_the_documents() {
+    let text = of_sample("text", "plain-block") + &of_sample("text", "refusal-2-decimal-comma");
+    let table = of_sample("table", "plain-block");
+    let (details, page) = (part("FORMAT.md", "The details"), part("PAGE.md", "The table in the terminal"));
+    assert_eq!((listing(&details).len(), listing(&page).len()), (7, 12));
+    listing(&details).into_iter().for_each(|line| assert!(text.lines().any(|printed| printed == line), "{line}"));
+    listing(&page).into_iter().for_each(|line| assert!(table.lines().any(|printed| printed == line), "{line}"));
+}
+
+/// Of each line of the text, its word and the names of its numbers, as the table of FORMAT has them.
+#[test]
+fn the_names_of_the_document() {
+    let details = part("FORMAT.md", "The details");
+    let ticked = |cell: &str| cell.split('`').skip(1).step_by(2).map(String::from).collect::<Vec<_>>();
+    let mut listed: Vec<Vec<String>> = vec![];
+    for row in details.lines().filter(|line| line.starts_with("| ") && !line.starts_with("| Line")) {
+        let cells: Vec<&str> = row.split('|').collect();
+        listed.extend((!ticked(cells[1]).is_empty()).then(|| ticked(cells[1])));
+        listed.last_mut().expect("a line").extend(ticked(cells[2]));
+    }
+    let text = of_sample("text", "cases-risky-in-case-3");
+    let mut printed: Vec<Vec<String>> = vec![];
+    for line in text.lines() {
+        let names: Vec<String> = line.split(' ').map(|word| word.split('=').next().expect("a name").into()).collect();
+        printed.extend((!printed.contains(&names)).then_some(names));
+    }
+    assert_eq!(listed, printed);
 }
 
 // ---- what cannot be read or written, and wrong usage ----
