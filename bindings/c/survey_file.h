@@ -5,6 +5,7 @@
 #ifndef SURVEY_FILE_H
 #define SURVEY_FILE_H
 
+#include <inttypes.h>
 #include <stdio.h>
 
 #include "llunareth.h"
@@ -74,9 +75,9 @@ static int read_survey(const char *name, struct llunareth_reading *survey, uint6
 /* A refusal in a line for a person. */
 static int print_refusal(uint64_t returned)
 {
-    printf("refused: %u", (unsigned)LLUNARETH_REFUSAL(returned));
+    printf("refused: %" PRIu64, LLUNARETH_REFUSAL(returned));
     if (LLUNARETH_LINE(returned) != 0) {
-        printf(" at line %llu", (unsigned long long)LLUNARETH_LINE(returned));
+        printf(" at line %" PRIu64, LLUNARETH_LINE(returned));
     }
     putchar('\n');
     return REFUSED;

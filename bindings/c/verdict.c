@@ -13,8 +13,6 @@
  *
  * gcc -std=c99 -I bindings/c bindings/c/verdict.c crates/exports/out/libexports.a -o verdict
  */
-#include <inttypes.h>
-
 #include "survey_file.h"
 
 /* The storey that the verdict names, and in four load cases the case. */

@@ -39,7 +39,7 @@ pub const BUILDING_VALUES: usize = 4;
 /// How many values [`report`] puts out.
 pub const REPORT_VALUES: usize = 1;
 
-/// How many values [`write`] puts out.
+/// How many values [`write()`] puts out.
 pub const WRITE_VALUES: usize = 1;
 
 /// How many values [`site_coefficients`] puts out.

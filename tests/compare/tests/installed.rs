@@ -3,6 +3,7 @@
 use compare::programs::{cargo, is_there, outcome, root, run_on, said, strict};
 use compare::{samples, table};
 use llunareth::raw::VERSION;
+use std::collections::BTreeSet;
 use std::ffi::OsStr;
 use std::fs;
 use std::path::{Path, PathBuf};
@@ -76,8 +77,9 @@ fn flags_line(outside: &Outside, word: &str) -> Vec<String> {
 fn flags(outside: &Outside) -> Vec<String> {
     let flags = [flags_line(outside, "Cflags"), flags_line(outside, "Libs")].concat();
     if is_there("pkg-config") {
-        let told = Command::new("pkg-config").args(["--cflags", "--libs", "llunareth"]).env("PKG_CONFIG_PATH", outside.join("installed/lib/pkgconfig")).output();
-        let told = outcome(told.expect("pkg-config starts")).0;
+        let mut command = Command::new("pkg-config");
+        command.args(["--cflags", "--libs", "llunareth"]).env("PKG_CONFIG_PATH", outside.join("installed/lib/pkgconfig"));
+        let told = outcome(command.output().expect("pkg-config starts")).0;
         assert_eq!(told.split_whitespace().collect::<Vec<_>>(), flags);
     }
     assert_eq!(flags_line(outside, "Version"), [VERSION.to_string()]);
@@ -165,8 +167,12 @@ fn the_installed_programs() {
         let sheet = String::from_utf8(sample.sheet).expect("text");
         assert_eq!(run_on(&outside.join("installed/bin/determine"), &path), (sheet.clone(), Some(0)), "{}", sample.name);
         let (line, status) = run_on(&outside.join("installed/bin/verdict"), &path);
-        let expected = if sheet.starts_with('E') { ("refused: ", Some(1)) } else if sheet.ends_with("1\n") { ("Risky: ", Some(0)) } else { ("not Risky\n", Some(0)) };
-        assert!(line.starts_with(expected.0) && status == expected.1, "{}: {line}", sample.name);
+        let (begins, ended) = match (sheet.starts_with('E'), sheet.ends_with(" 1\n")) {
+            (true, _) => ("refused: ", 1),
+            (false, true) => ("Risky: ", 0),
+            (false, false) => ("not Risky\n", 0),
+        };
+        assert!(line.starts_with(begins) && status == Some(ended), "{}: {line}", sample.name);
     }
 }
 
@@ -179,11 +185,9 @@ fn installed_under_destdir_and_taken_away() {
     assert_done(&install(&root(), &args));
     let copy = outside.join("staged/opt/llunareth");
     let list = fs::read_to_string(copy.join("share/llunareth/installed")).expect("the list");
-    let mut listed: Vec<PathBuf> = list.lines().map(|line| copy.join(line.trim_start_matches("./"))).chain([copy.join("share/llunareth/installed")]).collect();
-    let mut found = files(&copy);
-    listed.sort();
-    found.sort();
-    assert_eq!(found, listed);
+    let own = copy.join("share/llunareth/installed");
+    let listed: BTreeSet<PathBuf> = list.lines().map(|line| copy.join(line.trim_start_matches("./"))).chain([own]).collect();
+    assert_eq!(files(&copy).into_iter().collect::<BTreeSet<_>>(), listed);
     for name in ["lib/libllunareth.a", "include/llunareth.h", "bin/determine", "bin/verdict", "bin/details", "share/doc/llunareth/CALLS.md"] {
         assert!(copy.join(name).is_file(), "{name}");
     }
@@ -235,7 +239,8 @@ fn what_is_not_built_is_named_with_its_command() {
     assert_eq!((said(&output).as_str(), output.status.code()), (told, Some(1)));
     assert!(!outside.join("installed").exists());
     let misspelt = install(&root(), &["prefix=/opt".to_string()]);
-    assert_eq!((said(&misspelt).as_str(), misspelt.status.code()), ("install: usage: bindings/install [uninstall] [PREFIX=/usr/local] [DESTDIR=]\n", Some(1)));
+    let usage = "install: usage: bindings/install [uninstall] [PREFIX=/usr/local] [DESTDIR=]\n";
+    assert_eq!((said(&misspelt).as_str(), misspelt.status.code()), (usage, Some(1)));
     assert!(!install(&root(), &["PREFIX=installed".to_string()]).status.success());
 }
 

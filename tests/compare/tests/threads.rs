@@ -8,14 +8,19 @@ use std::thread;
 const SEED: u64 = 20_260_702;
 const THREADS: usize = 8;
 
-/// What the calls give for a file.
+/// What the calls give for the records of a file.
 #[derive(Debug, PartialEq)]
-struct Answers {
-    printed: Vec<u8>,
-    judged: Result<(Vec<StoreyFinding>, Vec<Cases<MemberFinding>>, Vec<u8>, Vec<u8>), Refusal>,
+struct Judged {
+    storeys: Vec<StoreyFinding>,
+    members: Vec<Cases<MemberFinding>>,
+    sheet: Vec<u8>,
+    written: Vec<u8>,
 }
 
-fn judged(file: &[u8]) -> Result<(Vec<StoreyFinding>, Vec<Cases<MemberFinding>>, Vec<u8>, Vec<u8>), Refusal> {
+/// What is printed for a file, and what the calls give for its records.
+type Answers = (Vec<u8>, Result<Judged, Refusal>);
+
+fn judged(file: &[u8]) -> Result<Judged, Refusal> {
     let (mut storeys, mut members) = (vec![Storey::default(); 10], vec![Member::default(); 320]);
     let survey = llunareth::read(file, &mut storeys, &mut members)?;
     let (k, form) = (survey.header.knowledge, survey.header.form);
@@ -25,16 +30,18 @@ fn judged(file: &[u8]) -> Result<(Vec<StoreyFinding>, Vec<Cases<MemberFinding>>,
         found.push(llunareth::judge_storey(k, form, storey, own)?);
         rest = after;
     }
-    let of_members = survey.members.iter().map(|m| llunareth::judge_member(k, form, [false; 4], m)).collect::<Result<_, _>>()?;
     let (mut sheet, mut written) = (vec![0; SHEET_MOST], vec![0; WRITE_MOST]);
-    let sheet = llunareth::report(&survey.header, survey.storeys, survey.members, &mut sheet)?.to_vec();
-    let written = llunareth::write(&survey.header, survey.storeys, survey.members, &mut written)?.to_vec();
-    Ok((found, of_members, sheet, written))
+    Ok(Judged {
+        storeys: found,
+        members: survey.members.iter().map(|m| llunareth::judge_member(k, form, [false; 4], m)).collect::<Result<_, _>>()?,
+        sheet: llunareth::report(&survey.header, survey.storeys, survey.members, &mut sheet)?.to_vec(),
+        written: llunareth::write(&survey.header, survey.storeys, survey.members, &mut written)?.to_vec(),
+    })
 }
 
 fn answers(file: &[u8]) -> Answers {
     let mut text = vec![0; SHEET_MOST];
-    Answers { printed: llunareth::determine(file, &mut text).to_vec(), judged: judged(file) }
+    (llunareth::determine(file, &mut text).to_vec(), judged(file))
 }
 
 fn files() -> Vec<Vec<u8>> {
@@ -48,7 +55,7 @@ fn files() -> Vec<Vec<u8>> {
 fn calls_from_several_threads() {
     let files = files();
     let expected: Vec<Answers> = files.iter().map(|file| answers(file)).collect();
-    assert!(expected.iter().any(|a| a.judged.is_ok()) && expected.iter().any(|a| a.judged.is_err()));
+    assert!(expected.iter().any(|(_, judged)| judged.is_ok()) && expected.iter().any(|(_, judged)| judged.is_err()));
     let (start, files, expected) = (&Barrier::new(THREADS), &files, &expected);
     thread::scope(|scope| {
         for first in 0..THREADS {
