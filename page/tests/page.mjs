@@ -4,8 +4,9 @@ import { execFileSync, spawnSync } from 'node:child_process';
 import { mkdtempSync, readdirSync, readFileSync, rmSync } from 'node:fs';
 import { tmpdir } from 'node:os';
 import { join } from 'node:path';
+import { fileURLToPath } from 'node:url';
 
-export const root = new URL('../..', import.meta.url).pathname;
+export const root = fileURLToPath(new URL('../..', import.meta.url));
 export const html = readFileSync(join(root, 'page/sheet.html'), 'utf8');
 
 const NAMES = ['DETAILS_LINES', 'SHEET_LINES', 'Unreadable', 'readText', 'pageOf', 'verdictSentence', 'memberRow', 'sharePart', 'apart', 'escaped', 'REFUSALS'];
