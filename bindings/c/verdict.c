@@ -13,27 +13,7 @@
  *
  * gcc -std=c99 -I bindings/c bindings/c/verdict.c crates/exports/out/libexports.a -o verdict
  */
-#include <inttypes.h>
-#include <stdio.h>
-
-#include "llunareth.h"
-
-enum { JUDGED = 0, REFUSED = 1, FAILED = 2 };
-
-/* One byte more than the longest file, so that a longer one shows. */
-static uint8_t file[LLUNARETH_FILE_MOST + 1];
-static struct llunareth_storey storeys[LLUNARETH_STOREY_ROWS];
-static struct llunareth_member members[LLUNARETH_MEMBER_ROWS];
-
-static int print_refusal(uint64_t number, uint64_t line)
-{
-    printf("refused: %" PRIu64, number);
-    if (line != 0) {
-        printf(" at line %" PRIu64, line);
-    }
-    putchar('\n');
-    return REFUSED;
-}
+#include "survey_file.h"
 
 /* The storey that the verdict names, and in four load cases the case. */
 static void print_storey(uint64_t form, uint64_t place, uint64_t load_case)
@@ -58,70 +38,38 @@ static int print_verdict(uint64_t form, const struct llunareth_building_finding 
 }
 
 /* Judges the building that was read. */
-static int judge(const struct llunareth_reading *read)
+static int judge(const struct llunareth_reading *survey)
 {
     struct llunareth_building_finding found;
-    uint64_t returned = llunareth_judge_building((const uint64_t *)&read->header, LLUNARETH_HEADER_NUMBERS, storeys,
-                                                 (size_t)read->storey_rows, members, (size_t)read->member_rows, (uint64_t *)&found,
+    uint64_t returned = llunareth_judge_building((const uint64_t *)&survey->header, LLUNARETH_HEADER_NUMBERS, storeys,
+                                                 (size_t)survey->storey_rows, members, (size_t)survey->member_rows, (uint64_t *)&found,
                                                  LLUNARETH_BUILDING_VALUES);
-    if (returned != LLUNARETH_ACCEPTED) {
-        return print_refusal(LLUNARETH_REFUSAL(returned), LLUNARETH_LINE(returned));
-    }
-    return print_verdict(read->header.form, &found);
+    return returned == LLUNARETH_ACCEPTED ? print_verdict(survey->header.form, &found) : print_refusal(returned);
 }
 
-/* Reads and judges the first bytes of `file`. */
-static int determine(size_t length)
+/* The verdict on a file by name, or on standard input. */
+static int run(const char *name)
 {
-    if (length > LLUNARETH_FILE_MOST) {
-        return print_refusal(LLUNARETH_TOO_LARGE, 0);
+    struct llunareth_reading survey;
+    uint64_t returned;
+    switch (read_survey(name, &survey, &returned)) {
+    case JUDGED:
+        return written(judge(&survey));
+    case REFUSED:
+        return written(print_refusal(returned));
+    default:
+        return FAILED;
     }
-    struct llunareth_reading read;
-    uint64_t returned = llunareth_read(file, length, storeys, LLUNARETH_STOREY_ROWS, members, LLUNARETH_MEMBER_ROWS, (uint64_t *)&read,
-                                       LLUNARETH_READ_VALUES);
-    if (returned != LLUNARETH_ACCEPTED) {
-        return print_refusal(LLUNARETH_REFUSAL(returned), LLUNARETH_LINE(returned));
-    }
-    return judge(&read);
-}
-
-static int fail(const char *what)
-{
-    perror(what);
-    return FAILED;
-}
-
-/* The verdict on an open file. */
-static int run(FILE *input, const char *name)
-{
-    size_t length = fread(file, 1, sizeof file, input);
-    if (ferror(input)) {
-        return fail(name);
-    }
-    int status = determine(length);
-    return fflush(stdout) == 0 ? status : fail("standard output");
-}
-
-static int run_named(const char *name)
-{
-    FILE *input = fopen(name, "rb");
-    if (input == NULL) {
-        return fail(name);
-    }
-    int status = run(input, name);
-    fclose(input);
-    return status;
 }
 
 int main(int argc, char **argv)
 {
-    if (llunareth_version() != LLUNARETH_VERSION) {
-        fputs("verdict: the library has another form of the calls\n", stderr);
+    if (!same_version("verdict")) {
         return FAILED;
     }
     if (argc > 2) {
         fputs("usage: verdict [FILE]\n", stderr);
         return FAILED;
     }
-    return argc == 2 ? run_named(argv[1]) : run(stdin, "standard input");
+    return run(argc == 2 ? argv[1] : NULL);
 }

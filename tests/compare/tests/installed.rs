@@ -131,6 +131,20 @@ fn the_examples_in_c_and_cpp() {
     }
 }
 
+/// `verdict` and `details` built from their installed sources print what the installed programs print.
+#[test]
+fn the_programs_from_their_installed_sources() {
+    let outside = installed("sources");
+    let flags = flags(&outside);
+    for name in ["verdict", "details"] {
+        let built = example(&outside, ("gcc", "-std=c99"), &format!("{name}.c"), &flags, name);
+        for sample in samples::names(".survey") {
+            let path = samples::folder().join(format!("{sample}.survey"));
+            assert_eq!(run_on(&built, &path), run_on(&outside.join("installed/bin").join(name), &path), "{name} on {sample}");
+        }
+    }
+}
+
 #[test]
 fn the_example_in_rust() {
     let outside = installed("rust");
@@ -174,7 +188,7 @@ fn installed_under_destdir_and_taken_away() {
     let own = copy.join("share/llunareth/installed");
     let listed: BTreeSet<PathBuf> = list.lines().map(|line| copy.join(line.trim_start_matches("./"))).chain([own]).collect();
     assert_eq!(files(&copy).into_iter().collect::<BTreeSet<_>>(), listed);
-    for name in ["lib/libllunareth.a", "include/llunareth.h", "bin/determine", "bin/verdict", "share/doc/llunareth/CALLS.md"] {
+    for name in ["lib/libllunareth.a", "include/llunareth.h", "bin/determine", "bin/verdict", "bin/details", "share/doc/llunareth/CALLS.md"] {
         assert!(copy.join(name).is_file(), "{name}");
     }
     let text = fs::read_to_string(copy.join("lib/pkgconfig/llunareth.pc")).expect("the file for pkg-config");
@@ -337,7 +351,7 @@ fn the_commands_of_the_page() {
 #[test]
 fn sizes() {
     let outside = installed("sizes");
-    for (name, most) in [("lib/libllunareth.a", 90_000), ("bin/determine", 60_000), ("bin/verdict", 60_000)] {
+    for (name, most) in [("lib/libllunareth.a", 90_000), ("bin/determine", 60_000), ("bin/verdict", 60_000), ("bin/details", 80_000)] {
         let length = fs::metadata(outside.join("installed").join(name)).expect("a file").len();
         assert!(0 < length && length <= most, "{name}: {length} bytes");
     }

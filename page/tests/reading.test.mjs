@@ -1,0 +1,185 @@
+// What the page reads of sheets and of details texts, good and damaged.
+import assert from 'node:assert/strict';
+import { test } from 'node:test';
+import { accepted, detailsOf, names, page, refused, sheetOf } from './page.mjs';
+
+const { DETAILS_LINES, SHEET_LINES, readText, pageOf, Unreadable } = page;
+
+// ---- what was read, written again ----
+
+function sheetLine(tag, values) {
+  return `${tag}${values.map((value) => String(value).padStart(12)).join('')}\n`;
+}
+
+function sheetLines(survey) {
+  const line = (tag, record) => sheetLine(tag, [...(survey.cases === 4 ? [record.case] : []), ...SHEET_LINES[tag].map((name) => record[name])]);
+  const ofCase = (found) => found.list.map((member) => line('M', member)).join('') + line('S', found);
+  const numbered = (storey) => storey.cases.map((found) => ({ ...found, number: storey.number }));
+  const storeys = survey.storeys.map((storey) => numbered(storey).map(ofCase).join('')).join('');
+  return storeys + sheetLine('B', SHEET_LINES.B.map((name) => survey.verdict[name]));
+}
+
+function detailsLine(word, record) {
+  return `${word}${DETAILS_LINES[word].map((name) => ` ${name}=${record[name]}`).join('')}\n`;
+}
+
+function detailsLines(survey) {
+  const ofCase = (found) => detailsLine('case', found) + found.list.map((member) => detailsLine('member', member)).join('');
+  const storeys = survey.storeys.map((storey) => detailsLine('storey', storey) + storey.cases.map(ofCase).join('')).join('');
+  return `details version=1\n${detailsLine('building', survey.building)}${storeys}${detailsLine('verdict', survey.verdict)}`;
+}
+
+for (const name of accepted) {
+  test(`${name}: the sheet's fields, line by line`, () => {
+    const read = readText(sheetOf(name));
+    assert.equal(read.kind, 'sheet');
+    assert.equal(sheetLines(read), sheetOf(name));
+  });
+
+  test(`${name}: the text's numbers, line by line, and the sheet in them`, () => {
+    const read = readText(detailsOf(name));
+    assert.equal(read.kind, 'details');
+    assert.equal(detailsLines(read), detailsOf(name));
+    assert.equal(sheetLines(read), sheetOf(name));
+  });
+
+  test(`${name}: the storey and the case that the sheet marks first are those of the text`, () => {
+    assert.deepEqual(readText(sheetOf(name)).verdict, readText(detailsOf(name)).verdict);
+  });
+}
+
+for (const name of refused) {
+  test(`${name}: the refusal and its line`, () => {
+    const [, refusal, line] = sheetOf(name).match(/^E +(\d+) +(\d+)\n$/);
+    const told = { kind: 'refusal', refusal: Number(refusal), line: Number(line) };
+    assert.deepEqual(readText(sheetOf(name)), told);
+    assert.deepEqual(readText(detailsOf(name)), told);
+  });
+}
+
+// ---- damaged texts ----
+
+// The page shows a message that names the line, and nothing else.
+function assertMessage(text, line) {
+  const { title, inside } = pageOf(text);
+  assert.equal(title, 'Cannot be shown', JSON.stringify(text.slice(0, 300)));
+  assert.match(inside, /^<div class="verdict message" role="alert"><h1>Cannot be shown<\/h1><p>Line \d+: [^<]+<\/p>(<pre>[^<]*<\/pre>)?<\/div>$/);
+  if (line !== undefined) assert.equal(Number(inside.match(/Line (\d+)/)[1]), line, inside);
+}
+
+// One of each kind: both forms of a sheet and of a details text, and both refusal lines.
+const TEXTS = ['worked-example', 'cases-worked-example', 'refusal-2-decimal-comma'].flatMap((name) => [
+  [`the sheet of ${name}`, sheetOf(name)],
+  [`the details of ${name}`, detailsOf(name)],
+]);
+
+// A text after a change of one of its lines.
+function changed(text, at, change) {
+  const lines = text.split('\n');
+  lines.splice(at, 1, ...change(lines[at]));
+  return lines.join('\n');
+}
+
+for (const [about, text] of TEXTS) {
+  const count = text.split('\n').length - 1;
+  const lines = [...Array(count).keys()];
+
+  test(`${about} is shown`, () => assert.notEqual(pageOf(text).title, 'Cannot be shown'));
+
+  test(`${about}: a line cut`, () => {
+    for (const at of lines) assertMessage(changed(text, at, (line) => [line.slice(0, -1)]), at + 1);
+  });
+
+  test(`${about}: a line left out`, () => {
+    for (const at of lines) assertMessage(changed(text, at, () => []));
+  });
+
+  test(`${about}: a line twice`, () => {
+    for (const at of lines) assertMessage(changed(text, at, (line) => [line, line]));
+  });
+
+  test(`${about}: a letter in place of any byte`, () => {
+    for (let i = 0; i < text.length; i += 1) {
+      if (text[i] !== 'x') assertMessage(`${text.slice(0, i)}x${text.slice(i + 1)}`, i === 0 ? 1 : undefined);
+    }
+  });
+
+  test(`${about}: cut off anywhere`, () => {
+    for (let i = 0; i < text.length; i += 1) assertMessage(text.slice(0, i));
+  });
+
+  test(`${about}: a blank too many in any line`, () => {
+    for (const at of lines) assertMessage(changed(text, at, (line) => [line.replace(' ', '  ')]), at + 1);
+  });
+
+  test(`${about}: a blank or a digit at the end of any line`, () => {
+    for (const at of lines) {
+      assertMessage(changed(text, at, (line) => [`${line} `]), at + 1);
+      if (!text.startsWith('details')) assertMessage(changed(text, at, (line) => [`${line}0`]), at + 1);
+    }
+  });
+
+  test(`${about}: line ends CR LF, in all lines and in one`, () => {
+    assertMessage(text.replaceAll('\n', '\r\n'), 1);
+    assert.match(pageOf(text.replaceAll('\n', '\r\n')).inside, /carriage return/);
+    for (const at of lines) assertMessage(changed(text, at, (line) => [`${line}\r`]), at + 1);
+  });
+
+  test(`${about}: something after the end`, () => {
+    for (const more of ['\n', ' ', 'B           0           0\n', 'verdict\n']) assertMessage(text + more, count + 1);
+  });
+
+  test(`${about}: a byte-order mark, and UTF-16`, () => {
+    assertMessage(`\uFEFF${text}`, 1);
+    assertMessage([...text].map((character) => `${character}\0`).join(''), 1);
+  });
+
+  test(`${about}: a zero in front of any number`, () => {
+    const spelled = (line) => line.replace(/ (\d+)$/, '0$1').replace(/=(\d+)$/, '=0$1');
+    for (const at of lines) assertMessage(changed(text, at, (line) => [spelled(line)]), at + 1);
+  });
+}
+
+test('nothing at all, and other texts', () => {
+  assertMessage('', 1);
+  assertMessage('\n', 1);
+  for (const name of names) assertMessage(`x${sheetOf(name)}`, 1);
+  assertMessage('Risky\n', 1);
+});
+
+// A member's line of the details with another number, and where it stands.
+function withNumber(name, value, word) {
+  const text = detailsOf('cases-worked-example');
+  const at = text.split('\n').findIndex((line) => line.startsWith(`${word} `));
+  return [changed(text, at, (line) => [line.replace(new RegExp(` ${name}=\\d+`), ` ${name}=${value}`)]), at + 1];
+}
+
+test('a number that may not stand there', () => {
+  const flags = [['over', 'member'], ['m_dropped', 'member'], ['risky', 'case'], ['by_damage', 'case'], ['risky', 'storey'], ['tilted', 'verdict']];
+  for (const [name, word] of flags) assertMessage(...withNumber(name, 2, word));
+  for (const value of [0, 6]) assertMessage(...withNumber('class', value, 'member'));
+  for (const value of [0, 3]) assertMessage(...withNumber('form', value, 'building'));
+  assertMessage(...withNumber('version', 2, 'details'));
+  assertMessage(...withNumber('m', '1234567890123456', 'member'));
+  assertMessage(...withNumber('allowed_den', 0, 'case'));
+  assertMessage(...withNumber('shear', 0, 'case'));
+});
+
+test('a number that does not fit the lines about it', () => {
+  for (const name of ['storey', 'case']) {
+    for (const word of ['member', 'case']) assertMessage(...withNumber(name, 9, word));
+  }
+  assertMessage(...withNumber('place', 9, 'storey'));
+  for (const name of ['place', 'storey', 'case']) assertMessage(...withNumber(name, 9, 'verdict'));
+  assertMessage(...withNumber('place', 0, 'verdict'));
+  for (const [name, word] of [['count', 'storey'], ['members', 'case'], ['count', 'building']]) assertMessage(withNumber(name, 9, word)[0]);
+});
+
+test('another member in another case', () => {
+  const sheet = sheetOf('cases-worked-example');
+  const other = changed(sheet, 3, (line) => [line.replace('           1           2', '           7           2')]);
+  assert.notEqual(other, sheet);
+  assertMessage(other, 4);
+});
+
+test('a message is an error of its own kind', () => assert.throws(() => readText(''), Unreadable));
