@@ -1,21 +1,22 @@
 -- The storeys of a survey in turn, each with its own members: which are given, and how many.
-use Prim.Native.Nat.{ℕ, suc, ◌+◌, ◌<◌}
+use Prim.Native.Nat.{ℕ, suc, ◌<◌}
 use native.Mathlib.Omega.{arith}
-use mathlib.Core.List.{List, [], ◌∷◌, map}
-use mathlib.Core.Path.{◌≡◌, refl, ap, sym, ◌∙◌}
+use mathlib.Core.List.{List, [], ◌∷◌}
+use mathlib.Core.Path.{◌≡◌, refl, ◌∙◌}
 use lib.ListN.{length, drop}
 use denote.Ref.{Bor}
 use Rattle.std.specs.Prelude.{None, Some}
 use Rattle.std.specs.Iterator.{Yields}
 use Rattle.std.specs.Iterator.Adapters.{enumerate_source, enumerate_count, enumerate_steps}
 use Rattle.std.specs.declared.iter.Enumerate.{Enumerate}
-use Rattle.std.proofs.lemmas.List.{drop-drop, length-map}
+use Rattle.std.proofs.lemmas.List.{drop-drop}
 use Rattle.records.specs.declared.Storey.{Storey}
 use Rattle.records.specs.declared.Member.{Member}
 use Rattle.checks.specs.Rows.{storey_in, members_before, members_of}
 use Rattle.checks.specs.RowsInTurn.{storeys_left, members_left, GivesStorey}
 use Rattle.checks.specs.declared.storey_rows.StoreyRows.{StoreyRows}
 use Rattle.checks.proofs.RowLaws.{before-next}
+use Rattle.checks.proofs.Numbered.{numbered-next, numbered-end}
 
 abbrev pub Given : Type 0
 Given = Bor Storey × Bor (List Member)
@@ -51,19 +52,10 @@ all-given (z ∷ given) s t u y g = rw y.1.0 (omega (arith, all-given given y.0 
 abbrev pub Numbered : Type 0
 Numbered = ℕ × Given
 
-unnumbered : (given : List Numbered) (s t : Enumerate StoreyRows) → Yields (enumerate_steps GivesStorey) s given t
-    → Yields GivesStorey (enumerate_source s) (map (λ (x : Numbered). x.1) given) (enumerate_source t) × (enumerate_count t ≡ enumerate_count s + length given)
-unnumbered [] s t y = (ap enumerate_source y, omega (arith, ap enumerate_count y))
-unnumbered (x ∷ given) s t y =
-    let r = unnumbered given y.0 t y.2 in
-    ((enumerate_source y.0, y.1.0, r.0), omega (arith, r.1, y.1.2))
-
 module _ (given : List Numbered) (s t u : Enumerate StoreyRows) (y : Yields (enumerate_steps GivesStorey) s given t) (e : enumerate_count s ≡ 0) where
-  so-far : length (map (λ (x : Numbered). x.1) given) ≡ enumerate_count t
-  so-far = omega (arith, length-map given (λ (x : Numbered). x.1), (unnumbered given s t y).1, e)
-
   pub numbered-turn : (x : Numbered) → enumerate_steps GivesStorey t (Some x) u → IsStorey (storeys_left (enumerate_source s)) (members_left (enumerate_source s)) x.0 x.1
-  numbered-turn x g = rw (g.1, ← so-far) (turn (map (λ (x : Numbered). x.1) given) (enumerate_source s) (enumerate_source t) (enumerate_source u) x.1 (unnumbered given s t y).0 g.0)
+  numbered-turn =
+      numbered-next GivesStorey given s t u y e (IsStorey (storeys_left (enumerate_source s)) (members_left (enumerate_source s))) (λ given' t' u' x'. turn given' (enumerate_source s) t' u' x')
 
   pub numbered-all : enumerate_steps GivesStorey t None u → enumerate_count t ≡ length (storeys_left (enumerate_source s))
-  numbered-all g = sym so-far ∙ all-given (map (λ (x : Numbered). x.1) given) (enumerate_source s) (enumerate_source t) (enumerate_source u) (unnumbered given s t y).0 g.0
+  numbered-all = numbered-end GivesStorey given s t u y e (length (storeys_left (enumerate_source s))) (λ given' t' u'. all-given given' (enumerate_source s) t' u')

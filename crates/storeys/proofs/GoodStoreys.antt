@@ -1,5 +1,5 @@
 -- The storeys of a good survey in turn: each is good, and which are given.
-use Prim.Native.Nat.{ℕ, suc, ◌+◌, ◌<◌}
+use Prim.Native.Nat.{ℕ, suc, ◌<◌}
 use native.Mathlib.Omega.{arith}
 use mathlib.Core.List.{List, [], ◌∷◌, map}
 use mathlib.Core.Path.{◌≡◌, refl, ap, sym, ◌∙◌}
@@ -19,6 +19,7 @@ use Rattle.checks.specs.RowsInTurn.{storeys_left, members_left, GivesStorey}
 use Rattle.checks.specs.declared.storey_rows.StoreyRows.{StoreyRows}
 use Rattle.checks.proofs.Refusals.{None as NoneOf, one, rest}
 use Rattle.checks.proofs.RowLaws.{members-counted, total-counted, rows}
+use Rattle.checks.proofs.Numbered.{numbered-next, numbered-end}
 use Rattle.checks.proofs.RowsInTurn.{Given, IsStorey, members-later, turn, all-given}
 use Rattle.members.specs.declared.knowledge.Knowledge.{Knowledge}
 use Rattle.storeys.specs.Rows.{Rows, GoodRows}
@@ -118,21 +119,12 @@ module _ (given : List GoodStorey) (s t u : GoodStoreys) (y : Yields GivesGoodSt
 abbrev pub Numbered : Type 0
 Numbered = ℕ × GoodStorey
 
-unnumbered : (given : List Numbered) (s t : Enumerate GoodStoreys) → Yields (enumerate_steps GivesGoodStorey) s given t
-    → Yields GivesGoodStorey (enumerate_source s) (map (λ (x : Numbered). x.1) given) (enumerate_source t) × (enumerate_count t ≡ enumerate_count s + length given)
-unnumbered [] s t y = (ap enumerate_source y, omega (arith, ap enumerate_count y))
-unnumbered (x ∷ given) s t y =
-    let r = unnumbered given y.0 t y.2 in
-    ((enumerate_source y.0, y.1.0, r.0), omega (arith, r.1, y.1.2))
-
 module _ (given : List Numbered) (s t u : Enumerate GoodStoreys) (y : Yields (enumerate_steps GivesGoodStorey) s given t) (e : enumerate_count s ≡ 0) where
-  so-far : length (map (λ (x : Numbered). x.1) given) ≡ enumerate_count t
-  so-far = omega (arith, length-map given (λ (x : Numbered). x.1), (unnumbered given s t y).1, e)
-
   pub numbered-turn : (g : GoodSurvey) → storeys_left (rows_left (enumerate_source s)) ≡ g.survey.storeys.now → members_left (rows_left (enumerate_source s)) ≡ g.survey.members.now → form_of (enumerate_source s) ≡ g.form → level_of (enumerate_source s) ≡ g.level
       → (x : Numbered) → enumerate_steps GivesGoodStorey t (Some x) u → IsGiven g x.0 x.1
-  numbered-turn g ss ms form level x k =
-      rw (k.1, ← so-far) (good-turn (map (λ (x : Numbered). x.1) given) (enumerate_source s) (enumerate_source t) (enumerate_source u) (unnumbered given s t y).0 g ss ms form level x.1 k.0)
+  numbered-turn g ss ms form level =
+      numbered-next GivesGoodStorey given s t u y e (IsGiven g) (λ given' t' u' x' y' k. good-turn given' (enumerate_source s) t' u' y' g ss ms form level x' k)
 
   pub numbered-all : enumerate_steps GivesGoodStorey t None u → enumerate_count t ≡ length (storeys_left (rows_left (enumerate_source s)))
-  numbered-all k = sym so-far ∙ good-all (map (λ (x : Numbered). x.1) given) (enumerate_source s) (enumerate_source t) (enumerate_source u) (unnumbered given s t y).0 k.0
+  numbered-all =
+      numbered-end GivesGoodStorey given s t u y e (length (storeys_left (rows_left (enumerate_source s)))) (λ given' t' u' y'. good-all given' (enumerate_source s) t' u' y')
