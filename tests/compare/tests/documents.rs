@@ -296,6 +296,18 @@ fn the_last_field_is_added() {
 }
 
 #[test]
+fn the_last_line_feed_is_added() {
+    let [command] = &indented(&section("REFUSALS.md", "## `E 1` at the last line"))[..] else { panic!("one command") };
+    for (name, line) in [("plain-block", 16), ("cases-tension", 27)] {
+        let survey = samples::survey(name);
+        let cut = &survey[..survey.len() - 1];
+        assert_eq!(text(&same_determine(cut, SHEET_MOST)), text(&refusal_line(1, line)), "{name}");
+        assert!(mended(command.trim_end(), cut) == survey, "{name}");
+        assert!(mended(command.trim_end(), &survey) == survey, "{name}, which has it");
+    }
+}
+
+#[test]
 fn the_fields_of_a_line_are_numbered() {
     let [command] = &indented(&section("REFUSALS.md", "## A line's fields, numbered"))[..] else { panic!("one command") };
     for name in ["plain-block", "cases-tension", "tension"] {
