@@ -153,15 +153,15 @@ static int show(bool as_text)
     } else {
         print_table();
     }
-    return JUDGED;
+    return ACCEPTED;
 }
 
 /* The details of a file by name, or of standard input. */
 static int run(const char *name, bool as_text)
 {
     uint64_t returned;
-    switch (read_survey(name, &found.survey, &returned)) {
-    case JUDGED:
+    switch (read_survey("details", name, &found.survey, &returned)) {
+    case ACCEPTED:
         return written(show(as_text));
     case REFUSED:
         return written(refuse(returned, as_text));

@@ -1,4 +1,7 @@
-/* Numbers as a person writes them, and texts put together from them. */
+/*
+ * Numbers as a person writes them, and texts put together from them. The caller sees to it that decimals are 1 to 17, that a divisor is not 0
+ * and ten times it is within 64 bits, and that a text has room for what is added: none of this is checked here.
+ */
 #ifndef FIGURES_H
 #define FIGURES_H
 
@@ -11,7 +14,7 @@
 /* Decimals of a ratio, of a rotation in rad, of a force in kN, of a height in m and of k: the powers of ten of their scales. */
 enum { RATIO_DECIMALS = 5, ROTATION_DECIMALS = 6, FORCE_DECIMALS = 1, HEIGHT_DECIMALS = 3, KNOWLEDGE_DECIMALS = 2 };
 
-/* Decimals of a quotient: that many, and at most. */
+/* Decimals of a quotient: at least and at most. */
 enum { QUOTIENT_DECIMALS = 4, QUOTIENT_DECIMALS_MOST = 17 };
 
 /* A text that grows; what does not fit is left out. */
@@ -68,7 +71,7 @@ static uint64_t count_up(char *digits, int decimals)
     return 1;
 }
 
-/* A quotient rounded to so many decimals. Ten times the divisor must be within 64 bits. */
+/* A quotient rounded to so many decimals. */
 static void add_quotient(struct text *text, uint64_t number, uint64_t divisor, int decimals)
 {
     char digits[QUOTIENT_DECIMALS_MOST + 1] = {0};

@@ -1,16 +1,17 @@
 /*
  * What verdict.c and details.c share: a survey file, by name or standard input, read into rows for as many records as `determine` has; and
- * the exit statuses.
+ * the exit statuses. `isatty` is of POSIX; unistd.h has it under -std=c99 too.
  */
 #ifndef SURVEY_FILE_H
 #define SURVEY_FILE_H
 
 #include <inttypes.h>
 #include <stdio.h>
+#include <unistd.h>
 
 #include "llunareth.h"
 
-enum { JUDGED = 0, REFUSED = 1, FAILED = 2 };
+enum { ACCEPTED = 0, REFUSED = 1, FAILED = 2 };
 
 /* One byte more than the longest file, so that a longer one shows. */
 static uint8_t file[LLUNARETH_FILE_MOST + 1];
@@ -51,16 +52,25 @@ static int read_open(FILE *input, const char *name, struct llunareth_reading *su
         return fail(name);
     }
     *returned = read_rows(length, survey);
-    return *returned == LLUNARETH_ACCEPTED ? JUDGED : REFUSED;
+    return *returned == LLUNARETH_ACCEPTED ? ACCEPTED : REFUSED;
+}
+
+/* Where a person types at a terminal, the program says what is awaited. */
+static void say_what_is_awaited(const char *program)
+{
+    if (isatty(STDIN_FILENO)) {
+        fprintf(stderr, "%s: a survey is awaited on standard input; for a file: %s FILE\n", program, program);
+    }
 }
 
 /*
- * Reads the survey of a file by name, or of standard input where the name is NULL. JUDGED: it stands in the rows. REFUSED: refusal and line
- * stand in `returned`. FAILED: the file cannot be read, which is said.
+ * Reads the survey of a file by name, or of standard input where the name is NULL. ACCEPTED: it stands in the rows. REFUSED: refusal and
+ * line stand in `returned`. FAILED: the file cannot be read, which is said.
  */
-static int read_survey(const char *name, struct llunareth_reading *survey, uint64_t *returned)
+static int read_survey(const char *program, const char *name, struct llunareth_reading *survey, uint64_t *returned)
 {
     if (name == NULL) {
+        say_what_is_awaited(program);
         return read_open(stdin, "standard input", survey, returned);
     }
     FILE *input = fopen(name, "rb");

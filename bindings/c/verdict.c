@@ -34,7 +34,7 @@ static int print_verdict(uint64_t form, const struct llunareth_building_finding 
     } else {
         print_storey(form, found->place, found->load_case);
     }
-    return JUDGED;
+    return ACCEPTED;
 }
 
 /* Judges the building that was read. */
@@ -52,8 +52,8 @@ static int run(const char *name)
 {
     struct llunareth_reading survey;
     uint64_t returned;
-    switch (read_survey(name, &survey, &returned)) {
-    case JUDGED:
+    switch (read_survey("verdict", name, &survey, &returned)) {
+    case ACCEPTED:
         return written(judge(&survey));
     case REFUSED:
         return written(print_refusal(returned));

@@ -1,33 +1,10 @@
 // What the page reads of sheets and of details texts, good and damaged.
 import assert from 'node:assert/strict';
 import { test } from 'node:test';
-import { accepted, detailsOf, names, page, refused, sheetOf } from './page.mjs';
+import { accepted, detailsOf, names, page, refused, sheetOf, surveyOf } from './page.mjs';
+import { detailsLines, sheetLines } from './written.mjs';
 
-const { DETAILS_LINES, SHEET_LINES, readText, pageOf, Unreadable } = page;
-
-// ---- what was read, written again ----
-
-function sheetLine(tag, values) {
-  return `${tag}${values.map((value) => String(value).padStart(12)).join('')}\n`;
-}
-
-function sheetLines(survey) {
-  const line = (tag, record) => sheetLine(tag, [...(survey.cases === 4 ? [record.case] : []), ...SHEET_LINES[tag].map((name) => record[name])]);
-  const ofCase = (found) => found.list.map((member) => line('M', member)).join('') + line('S', found);
-  const numbered = (storey) => storey.cases.map((found) => ({ ...found, number: storey.number }));
-  const storeys = survey.storeys.map((storey) => numbered(storey).map(ofCase).join('')).join('');
-  return storeys + sheetLine('B', SHEET_LINES.B.map((name) => survey.verdict[name]));
-}
-
-function detailsLine(word, record) {
-  return `${word}${DETAILS_LINES[word].map((name) => ` ${name}=${record[name]}`).join('')}\n`;
-}
-
-function detailsLines(survey) {
-  const ofCase = (found) => detailsLine('case', found) + found.list.map((member) => detailsLine('member', member)).join('');
-  const storeys = survey.storeys.map((storey) => detailsLine('storey', storey) + storey.cases.map(ofCase).join('')).join('');
-  return `details version=1\n${detailsLine('building', survey.building)}${storeys}${detailsLine('verdict', survey.verdict)}`;
-}
+const { TEXT_MOST, readText, pageOf, Unreadable } = page;
 
 for (const name of accepted) {
   test(`${name}: the sheet's fields, line by line`, () => {
@@ -60,9 +37,10 @@ for (const name of refused) {
 // ---- damaged texts ----
 
 // The page shows a message that names the line, and nothing else.
-function assertMessage(text, line) {
+function assertMessage(text, line, words = '') {
   const { title, inside } = pageOf(text);
   assert.equal(title, 'Cannot be shown', JSON.stringify(text.slice(0, 300)));
+  assert.ok(inside.includes(words), inside);
   assert.match(inside, /^<div class="verdict message" role="alert"><h1>Cannot be shown<\/h1><p>Line \d+: [^<]+<\/p>(<pre>[^<]*<\/pre>)?<\/div>$/);
   if (line !== undefined) assert.equal(Number(inside.match(/Line (\d+)/)[1]), line, inside);
 }
@@ -131,6 +109,7 @@ for (const [about, text] of TEXTS) {
 
   test(`${about}: a byte-order mark, and UTF-16`, () => {
     assertMessage(`\uFEFF${text}`, 1);
+    assert.match(pageOf(`\uFEFF${text}`).inside, /A byte-order mark stands in front/);
     assertMessage([...text].map((character) => `${character}\0`).join(''), 1);
   });
 
@@ -145,6 +124,29 @@ test('nothing at all, and other texts', () => {
   assertMessage('\n', 1);
   for (const name of names) assertMessage(`x${sheetOf(name)}`, 1);
   assertMessage('Risky\n', 1);
+});
+
+for (const name of names) {
+  test(`${name}: of its survey the page says that it is one`, () => {
+    for (const text of [surveyOf(name), surveyOf(name).replaceAll('\n', '\r\n')]) {
+      assertMessage(text, 1, 'This is a survey. Its text is made by: details text NAME.survey &#62; NAME.details');
+    }
+  });
+}
+
+test('a text that is longer than any', () => {
+  assert.equal(pageOf(detailsOf('plain-block')).title, 'Risky');
+  const { title, inside } = pageOf('x'.repeat(TEXT_MOST + 1));
+  assert.equal(title, 'Cannot be shown');
+  assert.ok(inside.endsWith('<p>This is longer than the text of any survey.</p></div>'));
+  assertMessage('x'.repeat(TEXT_MOST), 1, 'neither');
+});
+
+test('a number by which no survey is refused', () => {
+  for (const number of [0, 10, 11, 13, 99]) {
+    assertMessage(`E${String(number).padStart(12)}           3\n`, 1, 'No survey is refused by this number.');
+    assertMessage(`details version=1\nrefused refusal=${number} line=3\n`, 2, 'No survey is refused by this number.');
+  }
 });
 
 // A member's line of the details with another number, and where it stands.
@@ -173,6 +175,44 @@ test('a number that does not fit the lines about it', () => {
   for (const name of ['place', 'storey', 'case']) assertMessage(...withNumber(name, 9, 'verdict'));
   assertMessage(...withNumber('place', 0, 'verdict'));
   for (const [name, word] of [['count', 'storey'], ['members', 'case'], ['count', 'building']]) assertMessage(withNumber(name, 9, word)[0]);
+});
+
+// A text after changes, each of them a part of it and what comes in its place.
+function replaced(text, ...changes) {
+  for (const [from, to] of changes) {
+    assert.ok(text.includes(from), from);
+    text = text.replace(from, to);
+  }
+  return text;
+}
+
+test('the number of a storey or of a member a second time', () => {
+  const lineOf = (text, start) => text.split('\n').findIndex((line) => line.startsWith(start)) + 1;
+  const [sheet, details] = [sheetOf('plain-block'), detailsOf('plain-block')];
+  assertMessage(sheet.replace(/^S           2/m, 'S           1'), lineOf(sheet, 'S           2'), 'The number 1 stands a second time.');
+  assertMessage(details.replace(/^storey place=2 number=2/m, 'storey place=2 number=1'), lineOf(details, 'storey place=2'), 'The number 1 stands a second time.');
+  assertMessage(sheet.replace(/^M           2/m, 'M           1'), 2, 'The number 1 stands a second time.');
+  assertMessage(details.replace('storey=1 case=1 number=2', 'storey=1 case=1 number=1'), 6, 'The number 1 stands a second time.');
+  const cases = sheetOf('cases-worked-example').replace(/^(M           1) {11}2/m, '$1           1');
+  assertMessage(cases, 2, 'The number 1 stands a second time.');
+});
+
+test('a verdict that names another storey or case than the first Risky ones', () => {
+  const named = detailsOf('cases-worked-example');
+  const last = named.split('\n').length - 1;
+  const [, number] = named.match(/place=1 storey=(\d+) case=1\n$/);
+  assertMessage(replaced(named, [`place=1 storey=${number} case=1\n`, `place=1 storey=${number} case=3\n`]), last, 'The number &#34;case&#34; is 3 where 1 is due.');
+  assertMessage(replaced(named, [`place=1 storey=${number} case=1\n`, 'place=0 storey=0 case=0\n']), last, 'The number &#34;place&#34; is 0 where 1 is due.');
+  const plain = detailsOf('plain-block');
+  const second = replaced(plain, ['place=1 storey=1 case=1\n', 'place=2 storey=2 case=1\n']);
+  assertMessage(second, plain.split('\n').length - 1, 'The number &#34;place&#34; is 2 where 1 is due.');
+});
+
+test('Risky by one member over, and no member over', () => {
+  const text = detailsOf('risky-by-axial-load');
+  const none = text.replaceAll('over_m=0 over_rotation=1 over=1', 'over_m=0 over_rotation=0 over=0');
+  assert.ok(text.includes('by_share=0 by_one_over=1') && none !== text);
+  assertMessage(none, text.split('\n').findIndex((line) => line.includes('by_one_over=1')) + 1, 'The number &#34;by_one_over&#34; is 1 where 0 is due.');
 });
 
 test('another member in another case', () => {

@@ -25,7 +25,8 @@ function sentence(name, ...changes) {
   return verdictSentence(readText(text));
 }
 
-const NOT_RISKY = [['verdict', 'risky', 0], ['verdict', 'place', 0], ['verdict', 'storey', 0], ['verdict', 'case', 0]];
+const NO_STOREY = [['case', 'by_share', 0], ['case', 'risky', 0], ['storey', 'risky', 0]];
+const NOT_RISKY = [...NO_STOREY, ['verdict', 'risky', 0], ['verdict', 'place', 0], ['verdict', 'storey', 0], ['verdict', 'case', 0]];
 const TILTED = [['building', 'tilt2', 26000], ['verdict', 'tilted', 1]];
 const SHARE = 'the members over carry 270.0 kN of the storey shear of 900.0 kN, 0.3000 of it, more than the allowed share of 0.2466';
 const ONE_OVER = 'a member is over while the mean n_D of 0.7000 is above 0.65';
@@ -56,9 +57,8 @@ test('of a sheet the sentence tells what it marks', () => {
   assert.equal(told('plain-block'), 'Risky: storey 1 is Risky.');
   assert.equal(told('cases-risky-in-case-3'), 'Risky: storey 1 is Risky in case 3.');
   assert.equal(told('walls'), 'Not Risky: no storey is Risky, and the larger of the two tilts is not above 0.025 rad.');
-  const last = (line) => verdictSentence(readText(sheetOf('walls').replace(/B.*\n$/, line)));
-  assert.equal(last('B           1           1\n'), 'Risky: the larger of the two tilts is above 0.025 rad.');
-  assert.equal(last('B           0           1\n'), 'Risky: the text names no reason.');
+  const tilted = readText(sheetOf('walls').replace(/B.*\n$/, 'B           1           1\n'));
+  assert.equal(verdictSentence(tilted), 'Risky: the larger of the two tilts is above 0.025 rad.');
 });
 
 for (const name of refused) {
@@ -167,12 +167,15 @@ test('a wall past the limit of a dropped test is not shown as over', () => {
   assert.ok(memberRow(alone).includes('<span class="aside">past by 0.84885</span>'));
 });
 
-test('over, Risky and the reasons are the text\'s, whatever its numbers are', () => {
-  const turned = (text, from, to) => readText(text.replace(from, to));
-  const told = turned(detailsOf('plain-block'), /over_m=1 over_rotation=0 over=1/, 'over_m=0 over_rotation=0 over=0');
-  assert.ok(!memberRow(told.storeys[0].cases[0].list[1]).includes('over by'));
-  const risky = turned(detailsOf('walls'), /by_share=0 by_one_over=0 by_damage=0 risky=0/, 'by_share=0 by_one_over=0 by_damage=1 risky=1');
-  assert.match(sharePart(risky.storeys[0].cases[0]), /<span class="mark">Risky<\/span> by damage/);
+// The page judges nothing: no demand is held against its limit.
+test('over and the reasons are the text\'s, whatever its other numbers are', () => {
+  const text = detailsOf('plain-block');
+  const row = (from, to) => memberRow(readText(text.replace(from, to)).storeys[0].cases[0].list[1]);
+  assert.ok(!row('over_m=1 over_rotation=0 over=1', 'over_m=0 over_rotation=0 over=0').includes('over by'));
+  const within = row('m=260318', 'm=251406');
+  assert.ok(within.includes('<span class="mark">over</span>') && within.includes('2.51406 of 2.51411<strong class="by">over</strong>'), within);
+  assert.equal(sentence('plain-block', ['case', 'over_shear', 0]), `Risky: storey 1 is Risky: ${SHARE.replace('270.0', '0.0').replace('0.3000', '0.0000')}.`);
+  assert.equal(sentence('walls', ['verdict', 'tilted', 1], ['verdict', 'risky', 1]), 'Risky: the larger of the tilts of 0.0004 and 0.0003 rad is above 0.025 rad.');
 });
 
 test('a demand at the most that is counted is told as that or more', () => {

@@ -1,5 +1,5 @@
 //! Programs in C and C++ over the header and the proved library, and what a run of one gives.
-use std::fs::File;
+use std::fs::{self, File};
 use std::io::Write;
 use std::path::{Path, PathBuf};
 use std::process::{Command, Output, Stdio};
@@ -51,6 +51,23 @@ pub fn compile_text(compiler: &mut Command, language: &str, text: &str) -> Outpu
     let mut child = compiler.spawn().expect("the compiler starts");
     child.stdin.take().expect("a pipe").write_all(text.as_bytes()).expect("the text is read");
     child.wait_with_output().expect("the compiler ends")
+}
+
+/// What a program with its arguments gives where standard input is a terminal, at which this is typed and then Ctrl-D. `script` of util-linux makes
+/// the terminal; standard output and standard error go by files in a folder.
+pub fn run_at_a_terminal(program: &Path, arguments: &str, typed: &[u8], folder: &Path) -> Output {
+    let name = program.file_name().expect("a name").display();
+    let [output, error] = ["output", "error"].map(|stream| folder.join(format!("{name}-terminal-{stream}")));
+    let command = format!("'{}' {arguments} > '{}' 2> '{}'", program.display(), output.display(), error.display());
+    let mut child = Command::new("script")
+        .args(["--quiet", "--return", "--command", &command, "/dev/null"])
+        .stdin(Stdio::piped())
+        .stdout(Stdio::null())
+        .spawn()
+        .expect("script starts");
+    child.stdin.take().expect("a pipe").write_all(typed).expect("typed");
+    let status = child.wait().expect("script ends");
+    Output { status, stdout: fs::read(output).expect("a file"), stderr: fs::read(error).expect("a file") }
 }
 
 /// Whether a program is on the machine.

@@ -1,5 +1,5 @@
 //! The header for C and C++ and the program `verdict`, over the proved library, against the independent program.
-use compare::programs::{self, compile_text, compiler, languages, outcome, said};
+use compare::programs::{self, compile_text, compiler, languages, outcome, run_at_a_terminal, said};
 use compare::{
     by_storey, header_numbers, in_four_cases, judge_building, judge_storey, member_numbers, member_rows, member_values, plain_column, refusal_told, same_building,
     same_member, samples, storey_numbers, told_member, told_storey, worked_example,
@@ -50,9 +50,13 @@ fn the_header_asserts_the_sizes_of_its_structs() {
 
 // ---- the program `verdict` ----
 
-fn verdict() -> Command {
+fn verdict_program() -> &'static Path {
     static PROGRAM: OnceLock<PathBuf> = OnceLock::new();
-    Command::new(PROGRAM.get_or_init(|| build(&mut compiler("gcc", "-std=c99"), "bindings/c/verdict.c", "verdict")))
+    PROGRAM.get_or_init(|| build(&mut compiler("gcc", "-std=c99"), "bindings/c/verdict.c", "verdict"))
+}
+
+fn verdict() -> Command {
+    Command::new(verdict_program())
 }
 
 fn by_name(path: &Path) -> (String, Option<i32>) {
@@ -155,6 +159,19 @@ fn verdict_on_what_cannot_be_read_or_written() {
     assert_eq!(outcome(verdict().args([&survey, &survey]).output().expect("verdict starts")), nothing);
     let full = File::options().write(true).open("/dev/full").expect("a device that is full");
     assert_eq!(outcome(verdict().arg(&survey).stdout(full).output().expect("verdict starts")), nothing);
+}
+
+#[test]
+fn verdict_says_at_a_terminal_what_it_awaits() {
+    let awaited = "verdict: a survey is awaited on standard input; for a file: verdict FILE\n";
+    let survey = fs::read(samples::folder().join("plain-block.survey")).expect("a sample");
+    for (typed, due) in [(&b""[..], ("refused: 1 at line 1\n", 1)), (&survey, ("Risky: storey 1\n", 0))] {
+        let output = run_at_a_terminal(verdict_program(), "", typed, Path::new(env!("CARGO_TARGET_TMPDIR")));
+        assert_eq!(said(&output), awaited);
+        assert_eq!(outcome(output), (due.0.into(), Some(due.1)));
+    }
+    let piped = verdict().stdin(Stdio::null()).output().expect("verdict starts");
+    assert_eq!(said(&piped), "");
 }
 
 /// `verdict` over a library that says it has another version.

@@ -1,5 +1,5 @@
 //! The program `details`, its text and its table, over the proved library, against the independent program.
-use compare::programs::{build, compiler, outcome, root, said};
+use compare::programs::{build, compiler, outcome, root, run_at_a_terminal, said};
 use compare::{by_storey, in_four_cases, judge_storey, member_rows, refusal_told, samples, worked_example};
 use generator::{any_file, valid_survey, write_survey, Rng};
 use independent::{BuildingFinding, Fraction, Header, Member, MemberFinding, Storey, StoreyCaseFinding, Survey};
@@ -19,9 +19,13 @@ fn own(name: &str) -> PathBuf {
 
 // ---- running it ----
 
-fn details() -> Command {
+fn program() -> &'static Path {
     static PROGRAM: OnceLock<PathBuf> = OnceLock::new();
-    Command::new(PROGRAM.get_or_init(|| build(&mut compiler("gcc", "-std=c99"), "bindings/c/details.c", own("details"))))
+    PROGRAM.get_or_init(|| build(&mut compiler("gcc", "-std=c99"), "bindings/c/details.c", own("details")))
+}
+
+fn details() -> Command {
+    Command::new(program())
 }
 
 /// What is printed by words in front of the file's name.
@@ -498,7 +502,7 @@ fn the_listings_of_the_documents() {
     let text = of_sample("text", "plain-block") + &of_sample("text", "refusal-2-decimal-comma");
     let table = of_sample("table", "plain-block");
     let (details, page) = (part("FORMAT.md", "The details"), part("PAGE.md", "The table in the terminal"));
-    assert_eq!((listing(&details).len(), listing(&page).len()), (7, 12));
+    assert_eq!((listing(&details).len(), listing(&page).len()), (7, 14));
     listing(&details).into_iter().for_each(|line| assert!(text.lines().any(|printed| printed == line), "{line}"));
     listing(&page).into_iter().for_each(|line| assert!(table.lines().any(|printed| printed == line), "{line}"));
 }
@@ -536,6 +540,23 @@ fn what_cannot_be_read_or_written() {
         let full = File::options().write(true).open("/dev/full").expect("a device that is full");
         assert_eq!(outcome(details().args(words).arg(&survey).stdout(full).output().expect("details starts")), nothing);
     }
+}
+
+/// At a terminal the program says on standard error what it awaits; a file's name or another input is read without a word.
+#[test]
+fn a_person_at_a_terminal_is_told_what_is_awaited() {
+    let awaited = "details: a survey is awaited on standard input; for a file: details FILE\n";
+    let (path, folder) = (samples::folder().join("plain-block.survey"), Path::new(env!("CARGO_TARGET_TMPDIR")));
+    let survey = fs::read(&path).expect("a sample");
+    for words in ["", "text", "table"] {
+        let output = run_at_a_terminal(program(), words, &survey, folder);
+        assert_eq!(said(&output), awaited);
+        assert_eq!(outcome(output), by_name(words.split_whitespace().collect::<Vec<_>>().as_slice(), &path));
+    }
+    let named = run_at_a_terminal(program(), &format!("'{}'", path.display()), b"", folder);
+    assert_eq!((said(&named), outcome(named)), (String::new(), by_name(&[], &path)));
+    let piped = details().stdin(File::open(&path).expect("a sample")).output().expect("details starts");
+    assert_eq!(said(&piped), "");
 }
 
 #[test]

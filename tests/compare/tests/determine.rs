@@ -1,4 +1,5 @@
 //! `determine`, as a call and as a program, against the independent program, byte by byte.
+use compare::programs::{outcome, run_at_a_terminal, said};
 use compare::{program, refusal_line, refusal_told, same_determine, samples, worked_example, worked_examples, FILE_REFUSALS, FORMS, REFUSALS};
 use generator::{any_file, damage, lent_bytes, member_bytes, surveys_at_rows, valid_survey, valid_survey_of, write_survey, Rng, INPUT_MOST};
 use independent::lines::OLD_FORM;
@@ -7,7 +8,7 @@ use std::fs::{self, File, OpenOptions};
 use std::io::{ErrorKind, Write};
 use std::os::fd::OwnedFd;
 use std::os::unix::net::UnixStream;
-use std::path::{Path, PathBuf};
+use std::path::Path;
 use std::process::{ChildStdin, Command, Output, Stdio};
 use std::thread::sleep;
 use std::time::Duration;
@@ -341,31 +342,14 @@ fn standard_output_cut_off() {
 
 // ---- the program at a terminal ----
 
-/// A file of these tests' own.
-fn own(name: &str) -> PathBuf {
-    Path::new(env!("CARGO_TARGET_TMPDIR")).join(name)
-}
-
-/// What the program prints on standard output and standard error where standard input is a terminal, at which this is typed and then Ctrl-D. `script`
-/// makes the terminal.
-fn printed_at_a_terminal(typed: &[u8]) -> (String, String) {
-    let (output, error) = (own("terminal-output"), own("terminal-error"));
-    let command = format!("'{}' > '{}' 2> '{}'", program().display(), output.display(), error.display());
-    let mut child = Command::new("script")
-        .args(["--quiet", "--return", "--command", &command, "/dev/null"])
-        .stdin(Stdio::piped())
-        .stdout(Stdio::null())
-        .spawn()
-        .expect("script of util-linux starts");
-    child.stdin.take().expect("a pipe").write_all(typed).expect("typed");
-    assert!(child.wait().expect("script ends").success());
-    (fs::read_to_string(output).expect("a file"), fs::read_to_string(error).expect("a file"))
-}
-
 #[test]
 fn a_person_at_a_terminal_is_told_what_is_awaited() {
     let awaited = "determine: a survey is awaited on standard input; for a file: determine < FILE\n";
-    let sheet = String::from_utf8(independent::determine(&write_survey(&worked_example()))).expect("text");
-    assert_eq!(printed_at_a_terminal(b""), ("E           1           1\n".into(), awaited.into()));
-    assert_eq!(printed_at_a_terminal(&write_survey(&worked_example())), (sheet, awaited.into()));
+    let file = write_survey(&worked_example());
+    let folder = Path::new(env!("CARGO_TARGET_TMPDIR"));
+    for (typed, sheet) in [(&b""[..], refusal_line(1, 1)), (&file, independent::determine(&file))] {
+        let output = run_at_a_terminal(&program(), "", typed, folder);
+        assert_eq!(said(&output), awaited);
+        assert_eq!(outcome(output), (String::from_utf8(sheet).expect("text"), Some(0)));
+    }
 }
