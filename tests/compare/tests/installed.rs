@@ -287,8 +287,8 @@ fn over_another_version() {
 #[test]
 fn under_a_umask_that_keeps_others_out() {
     let outside = Outside::new("umask");
-    let words = format!("umask 077; exec bash bindings/install {}", prefix(&outside));
-    assert_done(&Command::new("bash").args(["-c", &words]).current_dir(root()).env_remove("DESTDIR").output().expect("bash starts"));
+    let words = format!("umask 077; exec bash bindings/install DESTDIR= {}", prefix(&outside));
+    assert_done(&Command::new("bash").args(["-c", &words]).current_dir(root()).output().expect("bash starts"));
     let mode = |path: &Path| fs::metadata(path).expect("a file").permissions().mode() & 0o777;
     for path in files(&outside.join("installed")) {
         let folder = path.parent().expect("a folder");
@@ -329,22 +329,47 @@ fn a_compiler_with_its_flags() {
     assert!(outside.join("installed/bin/verdict").is_file());
 }
 
+/// A repository whose install script has the folder `usual` of `outside` in place of /usr/local.
+fn with_another_default(outside: &Outside) -> PathBuf {
+    let repository = outside.join("repository");
+    fs::create_dir_all(repository.join("bindings")).expect("a folder");
+    for name in ["crates", "docs", "page", "samples", "bindings/c", "bindings/rust"] {
+        symlink(root().join(name), repository.join(name)).expect("a link");
+    }
+    let script = fs::read_to_string(root().join("bindings/install")).expect("the script");
+    let script = script.replace("/usr/local", &outside.join("usual").display().to_string());
+    fs::write(repository.join("bindings/install"), script).expect("written");
+    repository
+}
+
 /// PREFIX and DESTDIR of the environment hold where the arguments have no others.
 #[test]
 fn settings_in_the_environment() {
     let outside = Outside::new("environment");
-    let with = |args: &[&str], prefix: &str| {
+    let (repository, staged) = (with_another_default(&outside), outside.join("staged"));
+    let with = |args: &[&str], prefix: &str, destdir: &Path| {
         let args: Vec<String> = args.iter().map(|&arg| arg.into()).collect();
-        let mut command = install_command(&root(), &args);
-        assert_done(&command.env("DESTDIR", &outside.0).env("PREFIX", prefix).output().expect("bash starts"));
+        install_command(&repository, &args).env("DESTDIR", destdir).env("PREFIX", prefix).output().expect("bash starts")
     };
-    with(&[], "/one");
-    with(&["PREFIX=/two"], "/three");
-    assert!(["one", "two"].iter().all(|name| outside.join(name).join("bin/verdict").is_file()) && !outside.join("three").exists());
-    with(&["uninstall"], "/one");
-    with(&["uninstall", "PREFIX=/two"], "/three");
-    assert_eq!(files(&outside.0), [] as [PathBuf; 0]);
-    assert!(!install_command(&root(), &[]).env("DESTDIR", "staged").output().expect("bash starts").status.success());
+    assert_done(&with(&[], "/one", &staged));
+    assert_done(&with(&["PREFIX=/two"], "/three", &staged));
+    assert!(["one", "two"].iter().all(|name| staged.join(name).join("bin/verdict").is_file()) && !staged.join("three").exists());
+    assert_done(&with(&["uninstall"], "/one", &staged));
+    assert_done(&with(&["uninstall", "PREFIX=/two"], "/three", &staged));
+    assert_eq!(files(&staged), [] as [PathBuf; 0]);
+    assert!(!with(&[], "/one", Path::new("staged")).status.success());
+    assert!(!outside.join("usual").exists());
+}
+
+/// Where nothing is said, the default is PREFIX.
+#[test]
+fn without_settings() {
+    let outside = Outside::new("default");
+    let repository = with_another_default(&outside);
+    assert_done(&install(&repository, &[]));
+    assert!(outside.join("usual/bin/verdict").is_file());
+    assert_done(&install(&repository, &["uninstall".to_string()]));
+    assert_eq!(files(&outside.join("usual")), [] as [PathBuf; 0]);
 }
 
 /// The targets of the links of a page, without those within it.
