@@ -287,7 +287,7 @@ fn over_another_version() {
 #[test]
 fn under_a_umask_that_keeps_others_out() {
     let outside = Outside::new("umask");
-    let words = format!("umask 077; exec bash bindings/install DESTDIR= {}", prefix(&outside));
+    let words = format!("umask 077; unset CC; exec bash bindings/install DESTDIR= {}", prefix(&outside));
     assert_done(&Command::new("bash").args(["-c", &words]).current_dir(root()).output().expect("bash starts"));
     let mode = |path: &Path| fs::metadata(path).expect("a file").permissions().mode() & 0o777;
     for path in files(&outside.join("installed")) {
