@@ -8,8 +8,9 @@
  * stand at addresses that 8 divides, and a buffer that a call may change overlaps no other.
  *
  * A record handed in as numbers has them in the order of its struct, a header those of the B line and then its form. A number that is not
- * given is refused; numbers past the last are not looked at. A struct is handed in as numbers by (const uint64_t *)&row, and one is lent as
- * `out` by (uint64_t *)&finding, with the number of its values: each is numbers of 64 bits one after another and no others.
+ * given is refused by 3, a count that is not given beside its rows by 1; numbers past the last are not looked at. A struct is handed in as
+ * numbers by (const uint64_t *)&row, and one is lent as `out` by (uint64_t *)&finding, with the number of its values: each is numbers of 64
+ * bits one after another and no others.
  *
  * A survey has one of two forms, which its header tells: the old form of one load case, or the form of four. In the old form the first case
  * and the first storey shear hold the values. The other cases hold 0, N_K the force 0: LLUNARETH_NO_CASE; a case of zeros is refused by 3.
@@ -149,7 +150,10 @@ struct llunareth_load_case {
     uint64_t drift;    /* millionths */
 };
 
-/* A case that the form lacks. */
+/*
+ * A case that the form lacks, to begin a struct with: struct llunareth_load_case none = LLUNARETH_NO_CASE. Assigned later in C, it has the
+ * struct's name before it: row.cases[1] = (struct llunareth_load_case)LLUNARETH_NO_CASE.
+ */
 #define LLUNARETH_NO_CASE {LLUNARETH_ZERO_FORCE, 0, 0, 0, 0, 0, 0, 0}
 
 /*
@@ -398,14 +402,14 @@ uint64_t llunareth_member_fault(uint64_t form, const uint64_t *values, size_t va
 
 /*
  * Judges a member of a form with k and whether its storey meets the 0.40 condition in each case; those of cases that the form lacks are not
- * looked at. Refused by 3, k's and the form's first, or 4.
+ * looked at. Refused by 3, first for k and the form, or 4.
  */
 uint64_t llunareth_judge_member(uint64_t k, uint64_t form, bool met1, bool met2, bool met3, bool met4, const uint64_t *values,
                                 size_t values_len, uint64_t *out, size_t out_len);
 
 /*
  * Judges a storey of a form, given by its numbers, with k and the rows of its members. Refused by 1 where its count is not the rows; by 3,
- * k's and the form's first, 4 or 5.
+ * first for k and the form, 4 or 5.
  */
 uint64_t llunareth_judge_storey(uint64_t k, uint64_t form, const uint64_t *storey, size_t storey_len,
                                 const struct llunareth_member *members, size_t members_len, uint64_t *out, size_t out_len);

@@ -1,7 +1,7 @@
 /*
  * members < FILE: prints a table of a survey's members in each load case: the class, m and the rotation beside their limits, and whether the
- * member is over (where the m test is dropped, it is not over by m). Exit status: 0, 1 for a refusal, 2 where the library has another form
- * of the calls than the header.
+ * member is over (where the m test is dropped, it is not over by m). Exit status: 0; 1 for a refusal; 2 where standard input cannot be read,
+ * standard output cannot be written, or the library has another form of the calls than the header.
  *
  * gcc -std=c99 members.c $(pkg-config --cflags --libs llunareth) -o members
  */
@@ -21,12 +21,28 @@ static uint8_t file[LLUNARETH_WRITE_MOST + 1];
 static struct llunareth_storey storeys[STOREYS];
 static struct llunareth_member members[MEMBERS];
 
+/* Ends the program with 2 where something does not hold. */
+static void expect(bool holds, const char *otherwise)
+{
+    if (!holds) {
+        fprintf(stderr, "members: %s\n", otherwise);
+        exit(2);
+    }
+}
+
+/* Ends the program with a status, once all that it printed is written. */
+static void end(int status)
+{
+    expect(fflush(stdout) == 0 && !ferror(stdout), "standard output cannot be written");
+    exit(status);
+}
+
 /* Ends the program where a call refused. */
 static void check(uint64_t returned)
 {
     if (returned != LLUNARETH_ACCEPTED) {
         printf("refused: %" PRIu64 " at line %" PRIu64 "\n", LLUNARETH_REFUSAL(returned), LLUNARETH_LINE(returned));
-        exit(1);
+        end(1);
     }
 }
 
@@ -59,16 +75,14 @@ int main(void)
 {
     struct llunareth_reading read;
     const struct llunareth_member *own = members;
-    if (llunareth_version() != LLUNARETH_VERSION) {
-        fputs("members: the library has another form of the calls\n", stderr);
-        return 2;
-    }
-    check(llunareth_read(file, fread(file, 1, sizeof file, stdin), storeys, STOREYS, members, MEMBERS, (uint64_t *)&read,
-                         LLUNARETH_READ_VALUES));
+    const size_t length = fread(file, 1, sizeof file, stdin);
+    expect(!ferror(stdin), "standard input cannot be read");
+    expect(llunareth_version() == LLUNARETH_VERSION, "the library has another form of the calls");
+    check(llunareth_read(file, length, storeys, STOREYS, members, MEMBERS, (uint64_t *)&read, LLUNARETH_READ_VALUES));
     puts(" storey  member case  class            m     limit  rotation     limit  over");
     for (size_t i = 0; i < read.storey_rows; i++) {
         print_storey(&read.header, &storeys[i], own);
         own += storeys[i].count;
     }
-    return 0;
+    end(0);
 }

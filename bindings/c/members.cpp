@@ -1,11 +1,9 @@
 // members < FILE: the table of members.c, in C++11.
 //
 // g++ -std=c++11 members.cpp $(pkg-config --cflags --libs llunareth) -o members
+#include <cinttypes>
 #include <cstdio>
 #include <cstdlib>
-#include <iostream>
-#include <iterator>
-#include <string>
 #include <vector>
 
 #include "llunareth.h"
@@ -19,21 +17,39 @@ const char *const classes[] = {"", "column A", "column B", "column C", "wall A",
 template <typename T> const uint64_t *taken(const T &record) { return reinterpret_cast<const uint64_t *>(&record); }
 template <typename T> uint64_t *put(T &finding) { return reinterpret_cast<uint64_t *>(&finding); }
 
+// Ends the program with 2 where something does not hold.
+void expect(bool holds, const char *otherwise)
+{
+    if (!holds) {
+        std::fprintf(stderr, "members: %s\n", otherwise);
+        std::exit(2);
+    }
+}
+
+// Ends the program with a status, once all that it printed is written.
+void end(int status)
+{
+    expect(std::fflush(stdout) == 0 && !std::ferror(stdout), "standard output cannot be written");
+    std::exit(status);
+}
+
 // Ends the program where a call refused.
 void check(uint64_t returned)
 {
     if (returned != LLUNARETH_ACCEPTED) {
-        std::cout << "refused: " << LLUNARETH_REFUSAL(returned) << " at line " << LLUNARETH_LINE(returned) << '\n';
-        std::exit(1);
+        std::printf("refused: %" PRIu64 " at line %" PRIu64 "\n", LLUNARETH_REFUSAL(returned), LLUNARETH_LINE(returned));
+        end(1);
     }
 }
 
+double scaled(uint64_t number, uint64_t scale) { return static_cast<double>(number) / static_cast<double>(scale); }
+
 void print_row(uint64_t storey, uint64_t member, int load_case, const llunareth_member_finding &f)
 {
-    const double ratio = LLUNARETH_RATIO_SCALE, radian = LLUNARETH_ROTATION_SCALE;
-    std::printf("%7llu %7llu %4d  %-8s %9.5f %9.5f %9.6f %9.6f %5s\n", static_cast<unsigned long long>(storey),
-                static_cast<unsigned long long>(member), load_case, classes[f.member_class], f.m / ratio, f.m_limit / ratio,
-                f.rotation / radian, f.rotation_limit / radian, f.over ? "yes" : "no");
+    const uint64_t ratio = LLUNARETH_RATIO_SCALE, radian = LLUNARETH_ROTATION_SCALE;
+    std::printf("%7" PRIu64 " %7" PRIu64 " %4d  %-8s %9.5f %9.5f %9.6f %9.6f %5s\n", storey, member, load_case, classes[f.member_class],
+                scaled(f.m, ratio), scaled(f.m_limit, ratio), scaled(f.rotation, radian), scaled(f.rotation_limit, radian),
+                f.over ? "yes" : "no");
 }
 
 // Judges a storey, then each of its members with the storey's 0.40 condition.
@@ -58,21 +74,20 @@ void print_storey(const llunareth_header &header, const llunareth_storey &storey
 
 int main()
 {
-    const std::string file{std::istreambuf_iterator<char>(std::cin), std::istreambuf_iterator<char>()};
+    std::vector<uint8_t> file(LLUNARETH_WRITE_MOST + 1); // one byte more than the longest file, so that a longer one is refused
     std::vector<llunareth_storey> storeys(10);
     std::vector<llunareth_member> members(2000);
     llunareth_reading read;
-    if (llunareth_version() != LLUNARETH_VERSION) {
-        std::cerr << "members: the library has another form of the calls\n";
-        return 2;
-    }
-    check(llunareth_read(reinterpret_cast<const uint8_t *>(file.data()), file.size(), storeys.data(), storeys.size(), members.data(),
-                         members.size(), put(read), LLUNARETH_READ_VALUES));
-    std::puts(" storey  member case  class            m     limit  rotation     limit  over");
     const llunareth_member *own = members.data();
+    const size_t length = std::fread(file.data(), 1, file.size(), stdin);
+    expect(!std::ferror(stdin), "standard input cannot be read");
+    expect(llunareth_version() == LLUNARETH_VERSION, "the library has another form of the calls");
+    check(llunareth_read(file.data(), length, storeys.data(), storeys.size(), members.data(), members.size(), put(read),
+                         LLUNARETH_READ_VALUES));
+    std::puts(" storey  member case  class            m     limit  rotation     limit  over");
     for (size_t i = 0; i < read.storey_rows; i++) {
         print_storey(read.header, storeys[i], own);
         own += storeys[i].count;
     }
-    return 0;
+    end(0);
 }

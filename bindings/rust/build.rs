@@ -1,13 +1,13 @@
-//! Links the proved library: libllunareth.a in the folder that LLUNARETH_LIB_DIR names; where it is not set, that of the repository, which
-//! `rt lib` in crates/exports makes, or else of the installed copy that this package stands in.
+//! Links the proved library: libllunareth.a in the folder that LLUNARETH_LIB_DIR names, an absolute path; where it is not set or empty, that of
+//! the repository, which `rt lib` in crates/exports makes, or else of the installed copy that this package stands in.
 use std::path::{Path, PathBuf};
 use std::process::exit;
 
 /// Where the library may stand, in the order in which it is looked for.
 fn places() -> Vec<PathBuf> {
     let package = Path::new(env!("CARGO_MANIFEST_DIR"));
-    match std::env::var_os("LLUNARETH_LIB_DIR") {
-        Some(folder) => vec![Path::new(&folder).join("libllunareth.a")],
+    match std::env::var_os("LLUNARETH_LIB_DIR").filter(|folder| !folder.is_empty()) {
+        Some(folder) => vec![package.join(folder).join("libllunareth.a")],
         None => vec![package.join("../../crates/exports/out/libexports.a"), package.join("../../../lib/libllunareth.a")],
     }
 }

@@ -15,10 +15,12 @@ pub use findings::{
     TRAILING_BYTES, WALL_A, WALL_B,
 };
 pub use records::{
-    force, signed_force, Header, LoadCase, Member, Storey, Survey, CASES, CASE_NUMBERS, FORCE_SCALE, FOUR_CASES, HEADER_NUMBERS, MEMBER_NUMBERS,
-    OLD_FORM, RATIO_SCALE, ROTATION_SCALE, SHEET_MOST, STOREY_NUMBERS, WRITE_MOST, ZERO_FORCE,
+    force, signed_force, Header, LoadCase, Member, Storey, Survey, CASES, CASE_NUMBERS, FILE_MOST, FORCE_SCALE, FOUR_CASES, HEADER_NUMBERS,
+    MEMBER_NUMBERS, MEMBER_ROWS, OLD_FORM, RATIO_SCALE, ROTATION_SCALE, SHEET_MOST, STOREY_NUMBERS, STOREY_ROWS, WRITE_MOST, ZERO_FORCE,
 };
-pub use spectrum::{site_coefficients, spectrum, Motion, SiteFinding, FACTOR_SCALE, MAP_SCALE, PERIOD_SCALE, SPECTRUM_SCALE};
+pub use spectrum::{
+    site_coefficients, spectrum, Motion, SiteFinding, FACTOR_SCALE, MAP_SCALE, PERIOD_SCALE, SPECTRUM_SCALE, USE_DD1, USE_DD2, ZA, ZB, ZC, ZD, ZE, ZF,
+};
 
 /// The values that a call puts out.
 fn values<const N: usize>(call: impl FnOnce(&mut [u64]) -> u64) -> Result<[u64; N], Refusal> {
@@ -104,7 +106,7 @@ pub fn member_fault(form: u64, member: &Member) -> Result<(), Refusal> {
 }
 
 /// Judges a member of a form with k and whether its storey meets the 0.40 condition in each case ([`StoreyCaseFinding::walls_suffice`]); those of
-/// cases that the form lacks are not looked at. What is found in each case of the form. Refused by 3, k's and the form's first, or 4.
+/// cases that the form lacks are not looked at. What is found in each case of the form. Refused by 3, first for k and the form, or 4.
 ///
 /// ```
 /// use llunareth::{judge_member, Member, OLD_FORM, RATIO_SCALE};
@@ -137,7 +139,7 @@ pub fn judge_member(k: u64, form: u64, met: [bool; CASES], member: &Member) -> R
     }))
 }
 
-/// Judges a storey of a form with k and its members. Refused by 1 where its count is not that of the members; by 3, k's and the form's first, 4
+/// Judges a storey of a form with k and its members. Refused by 1 where its count is not that of the members; by 3, first for k and the form, 4
 /// or 5.
 ///
 /// ```
@@ -230,7 +232,7 @@ pub fn write<'a>(header: &Header, storeys: &[Storey], members: &[Member], file: 
 }
 
 /// What the program `determine` prints for a file, put to the front of the bytes; those after it are left alone. There is no refusal: the
-/// text is the answer, the sheet or the line `E` (26 bytes) with refusal and line, 8 and 0 where the file is longer than 65,536 bytes, 9 and 0
+/// text is the answer, the sheet or the line `E` (26 bytes) with refusal and line, 8 and 0 where the file is longer than [`FILE_MOST`], 9 and 0
 /// where the sheet does not fit. Where the line `E` does not fit, it is empty and all bytes are left alone. [`SHEET_MOST`] bytes hold every sheet.
 ///
 /// ```
@@ -239,6 +241,8 @@ pub fn write<'a>(header: &Header, storeys: &[Storey], members: &[Member], file: 
 /// assert_eq!(llunareth::determine(&file, &mut bytes), std::fs::read("../../samples/worked-example.sheet")?);
 /// assert_eq!(llunareth::determine(&file, &mut bytes[..26]), b"E           9           0\n");
 /// assert_eq!(llunareth::determine(&file, &mut bytes[..25]), b"");
+/// assert_eq!(llunareth::determine(&[b' '; llunareth::FILE_MOST], &mut bytes), b"E           1           1\n");
+/// assert_eq!(llunareth::determine(&[b' '; llunareth::FILE_MOST + 1], &mut bytes), b"E           8           0\n");
 /// # Ok::<(), std::io::Error>(())
 /// ```
 pub fn determine<'a>(file: &[u8], text: &'a mut [u8]) -> &'a [u8] {

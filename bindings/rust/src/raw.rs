@@ -1,5 +1,5 @@
-//! The calls as the proved library has them: slices of any length in, and numbers out, as in `bindings/c/llunareth.h`. A record handed in as
-//! numbers has them in the order of its struct; one that lacks a number is refused.
+//! The calls as the proved library has them: slices of any length in, and numbers out, as in `llunareth.h`. A record handed in as numbers has
+//! them in the order of its struct; one that lacks a number is refused by 3, by 1 where its rows are handed over and its count is lacking.
 //!
 //! A call with an `out` returns refusal and line in one number ([`LINE_UNIT`]), 0 where it is accepted. Accepted, it puts its values, and only
 //! these, to the front of `out`. Refused, it leaves everything that was lent as it was. Where `out` is too short for its values, it returns

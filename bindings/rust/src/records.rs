@@ -32,6 +32,11 @@ pub const FORCE_SCALE: u64 = 10;
 /// The bytes of the longest file that [`write`](crate::write) writes: 10 storeys of 200 members in four load cases.
 pub const WRITE_MOST: usize = 900_550;
 
+/// The bytes of the longest file that [`determine`](crate::determine) takes, and the rows that it reads it into.
+pub const FILE_MOST: usize = 65_536;
+pub const STOREY_ROWS: usize = 10;
+pub const MEMBER_ROWS: usize = 320;
+
 /// Bytes that hold every sheet that [`determine`](crate::determine) puts out.
 pub const SHEET_MOST: usize = 128_906;
 

@@ -1,10 +1,12 @@
 //! The example programs `members` in C, C++ and Rust print the same table, which is that of the independent program's answers.
-use compare::programs::{build, cargo, compiler, is_there, root, run_on, said};
+use compare::documents::{indented, section};
+use compare::programs::{build, cargo, compile_text, compiler, is_there, outcome, root, run_on, said};
 use compare::{by_storey, member_values, samples, table, told_member};
 use generator::{any_file, valid_survey, write_survey, Rng};
 use independent::lines::CASES;
-use std::fs;
+use std::fs::{self, File};
 use std::path::{Path, PathBuf};
+use std::process::{Command, Output, Stdio};
 use std::sync::OnceLock;
 
 const SEED: u64 = 20_260_701;
@@ -22,13 +24,14 @@ fn in_rust() -> PathBuf {
     built.join("debug/examples/members")
 }
 
-/// The examples, that in C++ where its compiler is there.
+/// The examples, that in C++ where its compiler is there. No number changes its type unsaid in them.
 fn examples() -> &'static [PathBuf] {
     static PROGRAMS: OnceLock<Vec<PathBuf>> = OnceLock::new();
     PROGRAMS.get_or_init(|| {
-        let mut programs = vec![build(&mut compiler("gcc", "-std=c99"), "bindings/c/members.c", own("members_c")), in_rust()];
+        let built = |(name, standard), source, program| build(compiler(name, standard).arg("-Wconversion"), source, own(program));
+        let mut programs = vec![built(("gcc", "-std=c99"), "bindings/c/members.c", "members_c"), in_rust()];
         if is_there("g++") {
-            programs.push(build(&mut compiler("g++", "-std=c++11"), "bindings/c/members.cpp", own("members_cpp")));
+            programs.push(built(("g++", "-std=c++11"), "bindings/c/members.cpp", "members_cpp"));
         }
         programs
     })
@@ -59,6 +62,55 @@ fn generated_files() {
     for file in (0..200).map(|_| any_file(&mut rng)).chain(good).chain([Vec::new()]) {
         fs::write(&path, file).expect("written");
         same_table(&path);
+    }
+}
+
+/// What an example tells with this input and output.
+fn run(program: &Path, input: &Path, output: Stdio) -> Output {
+    Command::new(program).stdin(File::open(input).expect("a file")).stdout(output).output().expect("the example starts")
+}
+
+#[test]
+fn what_cannot_be_read() {
+    for program in examples() {
+        let unread = run(program, &samples::folder(), Stdio::piped());
+        assert_eq!(said(&unread), "members: standard input cannot be read\n", "{}", program.display());
+        assert_eq!(outcome(unread), (String::new(), Some(2)), "{}", program.display());
+    }
+}
+
+/// A survey whose table is longer than what a program keeps before it writes.
+fn survey_of_a_long_table() -> Vec<u8> {
+    let mut rng = Rng::new(SEED);
+    let mut surveys = std::iter::repeat_with(|| write_survey(&valid_survey(&mut rng)));
+    surveys.find(|survey| table::printed(survey).0.len() > 20_000).expect("a long table")
+}
+
+/// A full device takes no byte, of a short table, a long one and a refusal.
+#[test]
+fn what_cannot_be_written() {
+    let path = own("unwritten.survey");
+    for (file, status) in [(samples::survey("worked-example"), 0), (survey_of_a_long_table(), 0), (Vec::new(), 1)] {
+        fs::write(&path, &file).expect("written");
+        assert_eq!(table::printed(&file).1, status);
+        for program in examples() {
+            let full = File::options().write(true).open("/dev/full").expect("a device that is full");
+            let lost = run(program, &path, full.into());
+            assert_eq!(said(&lost), "members: standard output cannot be written\n", "{}", program.display());
+            assert_eq!(lost.status.code(), Some(2), "{}", program.display());
+        }
+    }
+}
+
+// ---- a case that the form lacks ----
+
+#[test]
+fn the_lines_of_the_page_on_a_case_that_the_form_lacks() {
+    let [lines] = &indented(&section("CALLS.md", "### Forms and cases"))[..] else { panic!("one text") };
+    let text = format!("#include \"llunareth.h\"\nvoid lacking(struct llunareth_member row)\n{{\n{lines}(void)none, (void)row;\n}}\n");
+    for standard in ["-std=c99", "-std=c11"] {
+        let output = compile_text(&mut compiler("gcc", standard), "c", &text);
+        assert!(output.status.success(), "{standard}: {}", said(&output));
     }
 }
 

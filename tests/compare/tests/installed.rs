@@ -6,6 +6,7 @@ use llunareth::raw::VERSION;
 use std::collections::BTreeSet;
 use std::ffi::OsStr;
 use std::fs;
+use std::os::unix::fs::{symlink, PermissionsExt};
 use std::path::{Path, PathBuf};
 use std::process::{Command, Output};
 
@@ -41,15 +42,31 @@ fn assert_done(output: &Output) {
     assert!(output.status.success(), "{}{}", String::from_utf8_lossy(&output.stdout), said(output));
 }
 
-/// The install script of a copy of the repository.
+/// The install script of a copy of the repository, with none of its settings in the environment.
+fn install_command(repository: &Path, args: &[String]) -> Command {
+    let mut command = Command::new("bash");
+    command.arg(repository.join("bindings/install")).args(args);
+    command.env_remove("PREFIX").env_remove("DESTDIR").env_remove("CC");
+    command
+}
+
 fn install(repository: &Path, args: &[String]) -> Output {
-    Command::new("bash").arg(repository.join("bindings/install")).args(args).output().expect("bash starts")
+    install_command(repository, args).output().expect("bash starts")
+}
+
+/// The argument for a copy in the folder `installed`.
+fn prefix(outside: &Outside) -> String {
+    format!("PREFIX={}", outside.join("installed").display())
+}
+
+fn uninstall(outside: &Outside) -> Output {
+    install(&root(), &["uninstall".to_string(), prefix(outside)])
 }
 
 /// A folder with an installed copy in `installed`.
 fn installed(name: &str) -> Outside {
     let outside = Outside::new(name);
-    assert_done(&install(&root(), &[format!("PREFIX={}", outside.join("installed").display())]));
+    assert_done(&install(&root(), &[prefix(&outside)]));
     outside
 }
 
@@ -159,6 +176,23 @@ fn the_example_in_rust() {
     assert_tables(&in_rust(&outside, Some(&outside.join("elsewhere"))));
 }
 
+/// How many tests passed, by what `cargo test` printed.
+fn passed(printed: &str) -> u32 {
+    let number = |line: &str| line.strip_prefix("test result: ok. ")?.split_once(" passed")?.0.parse::<u32>().ok();
+    printed.lines().filter_map(number).sum()
+}
+
+/// The package's own tests, those of its documentation with them, which read samples.
+#[test]
+fn the_tests_of_the_installed_package() {
+    let outside = installed("package-tests");
+    let output = cargo("test", &outside.join("installed/share/llunareth/rust/Cargo.toml"), &outside.join("built")).output();
+    let output = output.expect("cargo starts");
+    assert_done(&output);
+    let (printed, _) = outcome(output);
+    assert!(passed(&printed) > 12, "{printed}");
+}
+
 #[test]
 fn the_installed_programs() {
     let outside = installed("programs");
@@ -200,6 +234,144 @@ fn installed_under_destdir_and_taken_away() {
     assert!(!install(&root(), &[&["uninstall".to_string()], &args[..]].concat()).status.success());
 }
 
+/// A folder under PREFIX that is a link stays one: the files go to where it leads.
+#[test]
+fn through_folders_that_are_links() {
+    let outside = Outside::new("links-to-folders");
+    fs::create_dir_all(outside.join("installed/lib64")).expect("a folder");
+    fs::create_dir_all(outside.join("documents")).expect("a folder");
+    fs::create_dir_all(outside.join("installed/share")).expect("a folder");
+    symlink("lib64", outside.join("installed/lib")).expect("a link");
+    symlink(outside.join("documents"), outside.join("installed/share/doc")).expect("a link");
+    assert_done(&install(&root(), &[prefix(&outside)]));
+    for name in ["installed/lib64/libllunareth.a", "installed/lib64/pkgconfig/llunareth.pc", "documents/llunareth/CALLS.md"] {
+        assert!(outside.join(name).is_file(), "{name}");
+    }
+    assert!(outside.join("installed/lib").is_symlink() && outside.join("installed/share/doc").is_symlink());
+    assert_done(&uninstall(&outside));
+    assert_eq!(files(&outside.0), [] as [PathBuf; 0]);
+}
+
+/// Where something is in the way, the files that were put before it can be taken away.
+#[test]
+fn put_half_way_and_taken_away() {
+    let outside = Outside::new("half-way");
+    fs::create_dir(outside.join("installed")).expect("a folder");
+    fs::write(outside.join("installed/lib"), "").expect("written");
+    assert!(!install(&root(), &[prefix(&outside)]).status.success());
+    assert!(outside.join("installed/bin/determine").is_file());
+    assert_done(&uninstall(&outside));
+    assert_eq!(files(&outside.0), [outside.join("installed/lib")]);
+}
+
+/// A file of another version that this one lacks goes; what no version has put stays.
+#[test]
+fn over_another_version() {
+    let outside = installed("another-version");
+    let (list, own) = (outside.join("installed/share/llunareth/installed"), outside.join("installed/share/doc/llunareth/own"));
+    let old = outside.join("installed/share/doc/llunareth/old/OLD.md");
+    let listed = fs::read_to_string(&list).expect("the list");
+    fs::create_dir(old.parent().expect("a folder")).expect("a folder");
+    [&old, &own].iter().for_each(|path| fs::write(path, "").expect("written"));
+    fs::write(&list, format!("./share/doc/llunareth/old/OLD.md\n{listed}")).expect("written");
+    assert_done(&install(&root(), &[prefix(&outside)]));
+    assert_eq!(fs::read_to_string(&list).expect("the list"), listed);
+    assert!(!old.exists() && own.exists());
+    assert_eq!(files(&outside.join("installed")).len(), listed.lines().count() + 2);
+    assert_done(&uninstall(&outside));
+    assert_eq!(files(&outside.0), [own]);
+    assert!(!old.parent().expect("a folder").exists());
+}
+
+/// Others can read the files and start the programs, also where new files are for their owner alone.
+#[test]
+fn under_a_umask_that_keeps_others_out() {
+    let outside = Outside::new("umask");
+    let words = format!("umask 077; unset CC; exec bash bindings/install DESTDIR= {}", prefix(&outside));
+    assert_done(&Command::new("bash").args(["-c", &words]).current_dir(root()).output().expect("bash starts"));
+    let mode = |path: &Path| fs::metadata(path).expect("a file").permissions().mode() & 0o777;
+    for path in files(&outside.join("installed")) {
+        let folder = path.parent().expect("a folder");
+        assert_eq!(mode(&path), if folder.ends_with("bin") { 0o755 } else { 0o644 }, "{}", path.display());
+        assert_eq!(mode(folder), 0o755, "{}", folder.display());
+    }
+}
+
+#[test]
+fn a_prefix_that_a_file_for_pkg_config_cannot_have() {
+    let outside = Outside::new("prefix");
+    for name in ["pre fix", "pre\tfix", "pre\"fix", "pre'fix", "pre\\fix", "pre$fix", "pre#fix"] {
+        let output = install(&root(), &[format!("PREFIX={}", outside.join(name).display())]);
+        assert!(output.status.code() == Some(1) && said(&output).contains("PREFIX has a blank"), "{name}: {}", said(&output));
+        assert!(!outside.join(name).exists(), "{name}");
+    }
+}
+
+/// A blank and a quote in DESTDIR and in the folder for temporary files, which is left empty.
+#[test]
+fn blanks_and_quotes_in_other_folders() {
+    let outside = Outside::new("quotes");
+    let (temporary, staged) = (outside.join("one's own"), outside.join("the staged 'copy'"));
+    fs::create_dir(&temporary).expect("a folder");
+    let args = [format!("DESTDIR={}", staged.display()), "PREFIX=/opt".to_string()];
+    assert_done(&install_command(&root(), &args).env("TMPDIR", &temporary).output().expect("bash starts"));
+    assert!(staged.join("opt/bin/verdict").is_file());
+    assert_eq!(fs::read_dir(&temporary).expect("the folder").count(), 0);
+}
+
+#[test]
+fn a_compiler_with_its_flags() {
+    let outside = Outside::new("compiler");
+    let with = |compiler: &str| install_command(&root(), &[prefix(&outside)]).env("CC", compiler).output().expect("bash starts");
+    assert!(!with("gcc -std=c99 -no-such-flag").status.success());
+    assert!(!outside.join("installed").exists());
+    assert_done(&with("gcc -m64"));
+    assert!(outside.join("installed/bin/verdict").is_file());
+}
+
+/// A repository whose install script has the folder `usual` of `outside` in place of /usr/local.
+fn with_another_default(outside: &Outside) -> PathBuf {
+    let repository = outside.join("repository");
+    fs::create_dir_all(repository.join("bindings")).expect("a folder");
+    for name in ["crates", "docs", "page", "samples", "bindings/c", "bindings/rust"] {
+        symlink(root().join(name), repository.join(name)).expect("a link");
+    }
+    let script = fs::read_to_string(root().join("bindings/install")).expect("the script");
+    let script = script.replace("/usr/local", &outside.join("usual").display().to_string());
+    fs::write(repository.join("bindings/install"), script).expect("written");
+    repository
+}
+
+/// PREFIX and DESTDIR of the environment hold where the arguments have no others.
+#[test]
+fn settings_in_the_environment() {
+    let outside = Outside::new("environment");
+    let (repository, staged) = (with_another_default(&outside), outside.join("staged"));
+    let with = |args: &[&str], prefix: &str, destdir: &Path| {
+        let args: Vec<String> = args.iter().map(|&arg| arg.into()).collect();
+        install_command(&repository, &args).env("DESTDIR", destdir).env("PREFIX", prefix).output().expect("bash starts")
+    };
+    assert_done(&with(&[], "/one", &staged));
+    assert_done(&with(&["PREFIX=/two"], "/three", &staged));
+    assert!(["one", "two"].iter().all(|name| staged.join(name).join("bin/verdict").is_file()) && !staged.join("three").exists());
+    assert_done(&with(&["uninstall"], "/one", &staged));
+    assert_done(&with(&["uninstall", "PREFIX=/two"], "/three", &staged));
+    assert_eq!(files(&staged), [] as [PathBuf; 0]);
+    assert!(!with(&[], "/one", Path::new("staged")).status.success());
+    assert!(!outside.join("usual").exists());
+}
+
+/// Where nothing is said, the default is PREFIX.
+#[test]
+fn without_settings() {
+    let outside = Outside::new("default");
+    let repository = with_another_default(&outside);
+    assert_done(&install(&repository, &[]));
+    assert!(outside.join("usual/bin/verdict").is_file());
+    assert_done(&install(&repository, &["uninstall".to_string()]));
+    assert_eq!(files(&outside.join("usual")), [] as [PathBuf; 0]);
+}
+
 /// The targets of the links of a page, without those within it.
 fn links(page: &str) -> Vec<&str> {
     page.split("](").skip(1).filter_map(|rest| rest.split([')', '#']).next()).filter(|target| !target.is_empty()).collect()
@@ -209,13 +381,31 @@ fn links(page: &str) -> Vec<&str> {
 fn the_links_of_the_installed_pages() {
     let outside = installed("links");
     let folder = outside.join("installed/share/doc/llunareth");
-    let pages = files(&folder).into_iter().filter(|path| path.extension() == Some(OsStr::new("md")));
-    let texts: Vec<String> = pages.map(|path| fs::read_to_string(path).expect("a page")).collect();
-    assert_eq!(texts.len(), 5);
+    let texts: Vec<String> = pages(&folder).iter().map(|path| fs::read_to_string(path).expect("a page")).collect();
+    assert_eq!(texts.len(), 6);
     let targets: Vec<&str> = texts.iter().flat_map(|text| links(text)).collect();
-    assert!(targets.contains(&"FORMAT.md") && targets.contains(&"spectrum.svg"));
+    assert!(["FORMAT.md", "PAGE.md", "spectrum.svg", "page.png"].iter().all(|target| targets.contains(target)));
     for target in targets {
         assert!(folder.join(target).is_file(), "{target}");
+    }
+}
+
+fn pages(folder: &Path) -> Vec<PathBuf> {
+    files(folder).into_iter().filter(|path| path.extension() == Some(OsStr::new("md"))).collect()
+}
+
+/// Each installed page has a second paragraph, which says where a file is that the copy lacks; the rest is the repository's page, less its links.
+#[test]
+fn the_installed_pages_say_where_other_files_are() {
+    let outside = installed("pages");
+    for path in pages(&outside.join("installed/share/doc/llunareth")) {
+        let text = fs::read_to_string(&path).expect("a page");
+        let own = fs::read_to_string(root().join("docs").join(path.file_name().expect("a name"))).expect("a page");
+        let (title, rest) = text.split_once("\n\n").expect("a title");
+        let (note, rest) = rest.split_once("\n").expect("a second paragraph");
+        assert!(note.starts_with("This is an installed copy: a file that is named and is not in it is in the repository."), "{note}");
+        assert!(own.starts_with(&format!("{title}\n")));
+        assert_eq!(rest.lines().count(), own.lines().count() - 1, "{}", path.display());
     }
 }
 
@@ -250,13 +440,16 @@ fn the_rust_package_names_the_command_for_a_library_that_is_not_there() {
     let manifest = outside.join("bindings/rust/Cargo.toml");
     let alone = fs::read_to_string(&manifest).expect("a manifest").replace("workspace = \"../../tests\"\n", "");
     fs::write(&manifest, alone).expect("written");
-    for folder in [None, Some(outside.join("empty"))] {
+    let (repository, package, elsewhere) = (outside.join("crates/exports/out/libexports.a"), outside.join("bindings/rust"), outside.join("empty"));
+    let told = [None, Some(Path::new("")), Some(Path::new("near")), Some(&elsewhere)];
+    let looked = [repository.clone(), repository, package.join("near/libllunareth.a"), elsewhere.join("libllunareth.a")];
+    for (told, looked) in told.into_iter().zip(looked) {
         let mut command = cargo("build", &manifest, &outside.join("built"));
-        let output = command.envs(folder.iter().map(|folder| ("LLUNARETH_LIB_DIR", folder))).output().expect("cargo starts");
-        let looked = folder.map_or("crates/exports/out/libexports.a".to_string(), |folder| folder.join("libllunareth.a").display().to_string());
+        let output = command.envs(told.map(|folder| ("LLUNARETH_LIB_DIR", folder))).output().expect("cargo starts");
+        let looked = looked.display().to_string();
         assert!(!output.status.success());
         for words in ["The proved library is not there.", "(cd crates/exports && rt lib)", "LLUNARETH_LIB_DIR", &looked] {
-            assert!(said(&output).contains(words), "{words}: {}", said(&output));
+            assert!(said(&output).replace("bindings/rust/../../", "").contains(words), "{words}: {}", said(&output));
         }
     }
 }

@@ -208,6 +208,29 @@ fn a_file_written_and_refused() {
     }
 }
 
+// ---- numbers that are not given ----
+
+/// Refused by 3, a count that is not given beside its rows by 1.
+#[test]
+fn records_that_lack_numbers() {
+    for (survey, _) in worked_examples() {
+        let (form, header, storeys) = (survey.header.form, header_numbers(&survey.header), storey_rows(&survey.storeys));
+        let (storey, rows) = (storey_numbers(&survey.storeys[0]), member_rows(&survey.members).expect("stored numbers"));
+        let member = member_numbers(&survey.members[0]).expect("stored numbers");
+        let out = &mut marks(raw::STOREY_VALUES);
+        for given in 0..header.len() {
+            let refused = if given < 6 { 1 } else { 3 };
+            assert_eq!((raw::header_fault(&header[..given]), raw::judge_building(&header[..given], &storeys, &rows, out)), (3, refused));
+        }
+        for given in 0..storey.len() {
+            assert_eq!((raw::storey_fault(form, &storey[..given]), raw::judge_storey(100, form, &storey[..given], &rows, out)), (3, 1));
+        }
+        for given in 0..member.len() {
+            assert_eq!((raw::member_fault(form, &member[..given]), raw::judge_member(100, form, [false; 4], &member[..given], out)), (3, 3));
+        }
+    }
+}
+
 // ---- where bytes stand ----
 
 /// Bytes at an address that is so much above one that 8 divides.

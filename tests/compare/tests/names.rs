@@ -1,4 +1,5 @@
-//! The names of the header and of the Rust package: refusals, classes, the places of the values, and forces to and from their numbers.
+//! The names of the header and of the Rust package: refusals, classes, sites, uses, sizes, the places of the values, and forces to and from
+//! their numbers.
 use compare::programs::{self, compile_text, compiler, languages, outcome, root, said};
 use std::collections::BTreeMap;
 use std::fs::{self, File};
@@ -40,11 +41,41 @@ fn classes() -> BTreeMap<String, u64> {
     numbered("crates/members/src/class.rt", " => ")
 }
 
+/// The codes of the proved code that an enum has: each line of a file with a number, the enum and a name.
+fn coded(file: &str, kind: &str, before: &str) -> BTreeMap<String, u64> {
+    let pair = |line: &str| {
+        let (code, name) = line.trim().strip_suffix("),")?.split_once(&format!(" => Ok({kind}::"))?;
+        Some((before.to_string() + &name.to_ascii_uppercase(), code.parse().ok()?))
+    };
+    text(file).lines().filter_map(pair).collect()
+}
+
+/// The codes of site classes and uses.
+fn codes() -> BTreeMap<String, u64> {
+    let classes = coded("crates/hazard/src/site.rt", "SiteClass", "");
+    classes.into_iter().chain(coded("crates/hazard/src/spectrum.rt", "Usage", "USE_")).collect()
+}
+
+/// The sizes of what `determine` takes.
+fn sizes() -> BTreeMap<String, u64> {
+    let pair = |line: &str| {
+        let (name, number) = line.strip_prefix("pub const ")?.strip_suffix(';')?.split_once(": usize = ")?;
+        Some((name.replace("INPUT", "FILE"), number.replace('_', "").parse().ok()?))
+    };
+    text("crates/determination/src/lib.rt").lines().filter_map(pair).collect()
+}
+
 /// Constants of the Rust package by their names.
 macro_rules! constants {
     ($($name:ident),*) => {
-        BTreeMap::from([$((stringify!($name).to_string(), llunareth::$name)),*])
+        BTreeMap::from([$((stringify!($name).to_string(), llunareth::$name as u64)),*])
     };
+}
+
+#[test]
+fn sites_uses_and_sizes_of_the_package_are_those_of_the_proved_code() {
+    assert_eq!(constants!(ZA, ZB, ZC, ZD, ZE, ZF, USE_DD1, USE_DD2), codes());
+    assert_eq!(constants!(FILE_MOST, STOREY_ROWS, MEMBER_ROWS), sizes());
 }
 
 #[test]
@@ -64,9 +95,10 @@ fn claims(names: &BTreeMap<String, u64>) -> String {
 }
 
 #[test]
-fn refusals_and_classes_of_the_header_are_those_of_the_proved_code() {
-    let names: BTreeMap<String, u64> = refusals().into_iter().chain(classes()).chain([("ACCEPTED".into(), 0)]).collect();
-    assert_eq!(names.len(), 18);
+fn the_names_of_the_header_have_the_numbers_of_the_proved_code() {
+    let names = [refusals(), classes(), codes(), sizes(), BTreeMap::from([("ACCEPTED".into(), 0)])];
+    let names: BTreeMap<String, u64> = names.into_iter().flatten().collect();
+    assert_eq!(names.len(), 29);
     let exchanged = names.iter().map(|(name, number)| (name.clone(), if *number == 14 { 13 } else { *number })).collect();
     for (name, standard, language) in languages() {
         let output = compile_text(&mut compiler(name, standard), language, &claims(&names));
@@ -78,8 +110,11 @@ fn refusals_and_classes_of_the_header_are_those_of_the_proved_code() {
 #[test]
 fn the_page_of_the_calls_has_the_names_with_their_numbers() {
     let page = text("docs/CALLS.md");
-    for (name, number) in refusals().into_iter().chain(classes()) {
+    for (name, number) in refusals().into_iter().chain(classes()).chain(codes()) {
         assert!(page.contains(&format!("{number} `{name}`")), "{number} {name}");
+    }
+    for (name, number) in [("FILE_MOST", "65,536 bytes"), ("STOREY_ROWS", "10 storeys"), ("MEMBER_ROWS", "320 members")] {
+        assert!(page.contains(&format!("{number} (`LLUNARETH_{name}`, `{name}`)")), "{number} {name}");
     }
 }
 
