@@ -7,7 +7,7 @@
  *
  * It shows and does not judge: every number is one that a call put out or that the survey has, and over, Risky and the reasons are the
  * calls'. A file is refused where `determine` refuses it. Exit status: 0 for a verdict, 1 for a refusal, 2 where the file cannot be read, the
- * text cannot be written, or the library has another form of the calls than the header.
+ * text cannot be written, the program is called wrongly, or the library has another form of the calls than the header.
  *
  * gcc -std=c99 -I bindings/c bindings/c/details.c crates/exports/out/libexports.a -o details
  */

@@ -1,6 +1,6 @@
 /*
- * Numbers as a person writes them, and texts put together from them. The caller sees to it that decimals are 1 to 17, that a divisor is not 0
- * and ten times it is within 64 bits, and that a text has room for what is added: none of this is checked here.
+ * Numbers as a person writes them, and texts put together from them. The caller sees to it that decimals are 1 to 17, and that a divisor is not 0
+ * and ten times it is within 64 bits: neither is checked here.
  */
 #ifndef FIGURES_H
 #define FIGURES_H

@@ -9,7 +9,7 @@
  *   refused: N                      no line is named
  *
  * A file is refused where `determine` refuses it. Exit status: 0 for a verdict, 1 for a refusal, 2 where the file cannot be read, the
- * line cannot be written, or the library has another form of the calls than the header.
+ * line cannot be written, the program is called wrongly, or the library has another form of the calls than the header.
  *
  * gcc -std=c99 -I bindings/c bindings/c/verdict.c crates/exports/out/libexports.a -o verdict
  */

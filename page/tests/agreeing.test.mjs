@@ -96,7 +96,7 @@ function differing(one, two) {
 }
 
 // The numbers that were turned in a text that still agrees with itself: kind of text, kind of line, name.
-const shownAllTheSame = new Set();
+const agreeingFlags = new Set();
 
 // Turns a number of a survey that was read: the page must show what the text says then, or name the line where it does not agree.
 function turned(survey, text, write, kind, record, name) {
@@ -105,7 +105,7 @@ function turned(survey, text, write, kind, record, name) {
   const { title, inside } = pageOf(other);
   const line = differing(text, other);
   if (agrees(survey)) {
-    shownAllTheSame.add(`${survey.kind} ${kind} ${name}`);
+    agreeingFlags.add(`${survey.kind} ${kind} ${name}`);
     assert.deepEqual(shown(inside), saying(survey), `line ${line}: ${name}`);
   } else {
     const due = survey.kind === 'sheet' ? other.split('\n').length - 1 : line; // in a sheet, the line B
@@ -133,5 +133,5 @@ for (const name of accepted) {
 test('what can be the other in a text that agrees with itself', () => {
   const details = ['case by_damage', 'case by_one_over', 'case by_share', 'case walls_suffice', 'member m_dropped', 'member over_m', 'member over_rotation', 'verdict tilted'];
   const sheet = ['case risky', 'member over', 'verdict tilted'];
-  assert.deepEqual([...shownAllTheSame].sort(), [...details.map((it) => `details ${it}`), ...sheet.map((it) => `sheet ${it}`)]);
+  assert.deepEqual([...agreeingFlags].sort(), [...details.map((it) => `details ${it}`), ...sheet.map((it) => `sheet ${it}`)]);
 });

@@ -114,8 +114,12 @@ for (const [about, text] of TEXTS) {
   });
 
   test(`${about}: a zero in front of any number`, () => {
-    const spelled = (line) => line.replace(/ (\d+)$/, '0$1').replace(/=(\d+)$/, '=0$1');
-    for (const at of lines) assertMessage(changed(text, at, (line) => [spelled(line)]), at + 1);
+    for (const at of lines) {
+      for (const number of text.split('\n')[at].matchAll(/ (?=\d)|=(?=\d)/g)) {
+        const spelled = (line) => `${line.slice(0, number.index)}${number[0] === '=' ? '=0' : '0'}${line.slice(number.index + 1)}`;
+        assertMessage(changed(text, at, (line) => [spelled(line)]), at + 1);
+      }
+    }
   });
 }
 

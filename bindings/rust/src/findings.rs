@@ -4,8 +4,9 @@ use crate::{CASES, FOUR_CASES};
 use std::fmt;
 use std::ops::Deref;
 
-/// The refusals by their numbers (REFUSALS.md); 10 and 13 are not used. A line is not of the kind or length due there, or absent; a count
-/// is not that of the rows.
+// The refusals by their numbers (REFUSALS.md); 10 and 13 are not used.
+
+/// A line is not of the kind or length due there, or absent; a count is not that of the rows.
 pub const STRUCTURE: u64 = 1;
 
 /// A field is not written as it must be.
@@ -41,11 +42,17 @@ pub const CASE_MISNUMBERED: u64 = 12;
 /// There is no spectrum for a map coefficient or a period.
 pub const OUTSIDE_MAP: u64 = 14;
 
-/// The classes of members.
+// The classes of members.
+
+/// A column of class A.
 pub const COLUMN_A: u64 = 1;
+/// A column of class B.
 pub const COLUMN_B: u64 = 2;
+/// A column of class C.
 pub const COLUMN_C: u64 = 3;
+/// A wall of class A.
 pub const WALL_A: u64 = 4;
+/// A wall of class B.
 pub const WALL_B: u64 = 5;
 
 /// A refusal by its number ([`STRUCTURE`] to [`OUTSIDE_MAP`], REFUSALS.md), with the line when reading, else line 0.

@@ -32,9 +32,11 @@ pub const FORCE_SCALE: u64 = 10;
 /// The bytes of the longest file that [`write`](crate::write) writes: 10 storeys of 200 members in four load cases.
 pub const WRITE_MOST: usize = 900_550;
 
-/// The bytes of the longest file that [`determine`](crate::determine) takes, and the rows that it reads it into.
+/// The bytes of the longest file that [`determine`](crate::determine) takes.
 pub const FILE_MOST: usize = 65_536;
+/// The storey rows that it reads a file into.
 pub const STOREY_ROWS: usize = 10;
+/// The member rows that it reads a file into.
 pub const MEMBER_ROWS: usize = 320;
 
 /// Bytes that hold every sheet that [`determine`](crate::determine) puts out.

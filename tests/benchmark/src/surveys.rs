@@ -71,7 +71,7 @@ fn header(form: u64, storeys: u64) -> Header {
     Header {
         knowledge: KNOWLEDGE,
         height: 3_000 * storeys,
-        storeys_above_ground: storeys,
+        storeys: storeys,
         tilt_1: 3_100,
         tilt_2: 1_250,
         storey_count: storeys,

@@ -1,4 +1,4 @@
-//! The documents for offices, by their sections.
+//! The documents, by their sections.
 use std::fs;
 use std::path::Path;
 
@@ -33,4 +33,11 @@ pub fn indented(section: &str) -> Vec<String> {
 /// What stands between backticks in a section.
 pub fn quoted(section: &str) -> Vec<&str> {
     section.split('`').skip(1).step_by(2).collect()
+}
+
+/// The rows of a section's tables that end in a number: what is quoted in the first cell, and the number.
+pub fn numbered_rows(section: &str) -> Vec<(Vec<&str>, usize)> {
+    let row = |line: &'_ str| line.strip_prefix("| ")?.strip_suffix(" |")?.rsplit_once(" | ").map(|(words, number)| (words.len(), number.replace(',', "")));
+    let numbered = |line| row(line).and_then(|(words, number)| Some((words, number.parse().ok()?)));
+    section.lines().filter_map(|line| numbered(line).map(|(words, number)| (quoted(&line[..2 + words]), number))).collect()
 }

@@ -502,6 +502,6 @@ pub fn at_edges(rng: &mut Rng, form: u64, storeys: u64) -> Survey {
     Survey {
         members: (0..200 * storeys).map(&mut member).collect(),
         storeys: (1..=storeys).map(storey).collect(),
-        header: Header { knowledge, height: 30_000, storeys_above_ground: 10, tilt_1: 0, tilt_2: 0, storey_count: storeys, form },
+        header: Header { knowledge, height: 30_000, storeys: 10, tilt_1: 0, tilt_2: 0, storey_count: storeys, form },
     }
 }

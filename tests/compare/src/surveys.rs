@@ -53,7 +53,7 @@ const CASE_NUMBER: usize = 1;
 fn refused() -> [(&'static str, Vec<u8>); 10] {
     let block = &old_form::plain_block();
     let exchange = |m: &mut Member| swap(&mut m.long_side, &mut m.short_side);
-    let eleven = Header { height: 33_000, storeys_above_ground: 11, ..block.header };
+    let eleven = Header { height: 33_000, storeys: 11, ..block.header };
     let in_cases = &four_cases::risky_in_case_3();
     [
         ("refusal-1-column-left-out", lines_changed(block, |lines| drop(lines.remove(6 - 1)))),

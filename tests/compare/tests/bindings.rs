@@ -1,4 +1,5 @@
 //! The header for C and C++ and the program `verdict`, over the proved library, against the independent program.
+use compare::documents::{numbered_rows, section};
 use compare::programs::{self, compile_text, compiler, languages, outcome, run_at_a_terminal, said};
 use compare::{
     by_storey, header_numbers, in_four_cases, judge_building, judge_storey, member_numbers, member_rows, member_values, plain_column, refusal_told, same_building,
@@ -10,6 +11,7 @@ use generator::{
 use independent::lines::OLD_FORM;
 use independent::{Header, LoadCase, Member, Motion, Storey, Survey};
 use llunareth::{raw, StoreyCaseFinding};
+use std::collections::BTreeMap;
 use std::fs::{self, File};
 use std::path::{Path, PathBuf};
 use std::process::{Command, Stdio};
@@ -364,22 +366,6 @@ fn sites_and_spectra_by_the_names_of_the_header() {
 
 // ---- the stack of each call ----
 
-/// Bytes that each call takes at most, as docs/CALLS.md states them.
-const STACKS: [(&str, usize); 12] = [
-    ("llunareth_read", 9_000),
-    ("llunareth_header_fault", 1_000),
-    ("llunareth_storey_fault", 1_000),
-    ("llunareth_member_fault", 2_000),
-    ("llunareth_judge_member", 4_000),
-    ("llunareth_judge_storey", 4_000),
-    ("llunareth_judge_building", 4_000),
-    ("llunareth_report", 4_000),
-    ("llunareth_write", 3_000),
-    ("llunareth_site_coefficients", 3_000),
-    ("llunareth_spectrum", 3_000),
-    ("llunareth_determine", 139_000),
-];
-
 /// A survey in four cases with so many members in each storey.
 fn survey_of(counts: &[u64]) -> Survey {
     let member = |number| Member { number, ..plain_column() };
@@ -400,10 +386,13 @@ fn assert_stacks(largest: &Survey, longest: &Survey) {
     let (printed, code) = outcome(Command::new(program).args([name("largest"), name("longest")]).output().expect("stack starts"));
     assert_eq!(code, Some(0), "a call refused its survey: {printed}");
     let lines: Vec<&str> = printed.lines().collect();
-    assert_eq!(lines.len(), STACKS.len());
-    for (line, (name, most)) in lines.iter().zip(STACKS) {
-        let taken = line.strip_prefix(name).and_then(|rest| rest.trim().parse::<usize>().ok()).expect("a call and its bytes");
-        assert!(0 < taken && taken <= most, "{line}, at most {most}");
+    let stated = section("CALLS.md", "## Memory");
+    let most: BTreeMap<&str, usize> = numbered_rows(&stated).into_iter().flat_map(|(names, most)| names.into_iter().map(move |name| (name, most))).collect();
+    assert_eq!((lines.len(), most.len()), (12, 12));
+    for line in lines {
+        let (name, taken) = line.split_once(' ').expect("a call and its bytes");
+        let taken: usize = taken.trim().parse().expect("bytes");
+        assert!(0 < taken && taken <= most[name], "{line}, at most {}", most[name]);
     }
 }
 

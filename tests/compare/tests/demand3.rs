@@ -161,7 +161,7 @@ fn single(k: u64, shear: u64, change: impl Fn(&mut Member, &mut LoadCase)) -> Su
     change(&mut m, &mut load);
     m.cases = one_case(load);
     Survey {
-        header: Header { knowledge: k, height: 9_000, storeys_above_ground: 3, tilt_1: 0, tilt_2: 0, storey_count: 1, form: OLD_FORM },
+        header: Header { knowledge: k, height: 9_000, storeys: 3, tilt_1: 0, tilt_2: 0, storey_count: 1, form: OLD_FORM },
         storeys: vec![Storey { number: 1, shears: [shear, 0, 0, 0], count: 1 }],
         members: vec![m],
     }

@@ -1,5 +1,6 @@
 //! The program `details`, its text and its table, over the proved library, against the independent program.
-use compare::programs::{build, compiler, outcome, root, run_at_a_terminal, said};
+use compare::documents::{indented, section};
+use compare::programs::{build, compiler, outcome, run_at_a_terminal, said};
 use compare::{by_storey, in_four_cases, judge_storey, member_rows, refusal_told, samples, worked_example};
 use generator::{any_file, valid_survey, write_survey, Rng};
 use independent::{BuildingFinding, Fraction, Header, Member, MemberFinding, Storey, StoreyCaseFinding, Survey};
@@ -77,7 +78,7 @@ fn building_found(survey: &Survey) -> BuildingFinding {
     independent::judge_building(&survey.header, &survey.storeys, &survey.members).expect("accepted")
 }
 
-/// The independent program's findings as 0 or 1.
+/// Over by m: above the limit, and the test not dropped.
 fn over_m(f: &MemberFinding) -> bool {
     f.m_above && !f.m_dropped
 }
@@ -91,7 +92,7 @@ fn line(word: &str, pairs: &[(&str, u64)]) -> String {
 }
 
 fn building_line(h: &Header) -> String {
-    let about = [("knowledge", h.knowledge), ("height", h.height), ("storeys", h.storeys_above_ground), ("tilt1", h.tilt_1), ("tilt2", h.tilt_2)];
+    let about = [("knowledge", h.knowledge), ("height", h.height), ("storeys", h.storeys), ("tilt1", h.tilt_1), ("tilt2", h.tilt_2)];
     line("building", &[&about[..], &[("count", h.storey_count), ("form", h.form)]].concat())
 }
 
@@ -265,7 +266,7 @@ fn assert_table(table: &str, survey: &Survey) -> String {
     let (lines, last) = table_parts(table);
     let (height, cases) = (figure(h.height, 3), if h.form == 1 { "one" } else { "four" });
     let tilts = format!("tilts {} and {} rad", figure(h.tilt_1, 6), figure(h.tilt_2, 6));
-    let head = format!("k = {}.{:02}, H_T = {height} m, n_s = {}, {tilts}, {cases} load case", h.knowledge / 100, h.knowledge % 100, h.storeys_above_ground);
+    let head = format!("k = {}.{:02}, H_T = {height} m, n_s = {}, {tilts}, {cases} load case", h.knowledge / 100, h.knowledge % 100, h.storeys);
     assert_eq!(lines[0].join(" "), head + if h.form == 1 { "" } else { "s" });
     assert!(lines[1].join(" ").starts_with("OVER: past a limit;"));
     let due: Vec<_> = storeys.iter().flat_map(|found| (0..found.cases.len()).flat_map(|i| case_words(h.form, found, i))).collect();
@@ -480,16 +481,9 @@ fn as_many_decimals_as_it_takes_of_the_mean() {
 
 // ---- the documents ----
 
-/// A part of a document, from its heading to the next of the same depth.
-fn part(document: &str, heading: &str) -> String {
-    let text = fs::read_to_string(root().join("docs").join(document)).expect("a document");
-    let (_, rest) = text.split_once(&format!("\n## {heading}\n")).expect("the heading");
-    rest.split("\n## ").next().expect("a part").into()
-}
-
-/// The lines that are set in by four blanks, without these; commands left out.
-fn listing(part: &str) -> Vec<&str> {
-    let lines = part.lines().filter_map(|line| line.strip_prefix("    "));
+/// The lines that are set in, commands left out.
+fn listing(section: &str) -> Vec<String> {
+    let lines = indented(section).into_iter().flat_map(|text| text.lines().map(String::from).collect::<Vec<_>>());
     lines.filter(|line| !line.starts_with("./") && !line.is_empty()).collect()
 }
 
@@ -501,7 +495,7 @@ fn of_sample(word: &str, name: &str) -> String {
 fn the_listings_of_the_documents() {
     let text = of_sample("text", "plain-block") + &of_sample("text", "refusal-2-decimal-comma");
     let table = of_sample("table", "plain-block");
-    let (details, page) = (part("FORMAT.md", "The details"), part("PAGE.md", "The table in the terminal"));
+    let (details, page) = (section("FORMAT.md", "## The details"), section("PAGE.md", "## The table in the terminal"));
     assert_eq!((listing(&details).len(), listing(&page).len()), (7, 14));
     listing(&details).into_iter().for_each(|line| assert!(text.lines().any(|printed| printed == line), "{line}"));
     listing(&page).into_iter().for_each(|line| assert!(table.lines().any(|printed| printed == line), "{line}"));
@@ -510,7 +504,7 @@ fn the_listings_of_the_documents() {
 /// Of each line of the text, its word and the names of its numbers, as the table of FORMAT has them.
 #[test]
 fn the_names_of_the_document() {
-    let details = part("FORMAT.md", "The details");
+    let details = section("FORMAT.md", "## The details");
     let ticked = |cell: &str| cell.split('`').skip(1).step_by(2).map(String::from).collect::<Vec<_>>();
     let mut listed: Vec<Vec<String>> = vec![];
     for row in details.lines().filter(|line| line.starts_with("| ") && !line.starts_with("| Line")) {

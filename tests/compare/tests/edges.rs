@@ -117,7 +117,7 @@ fn i_one_member_of_damage_kind_four() {
 #[test]
 fn j_the_larger_tilt() {
     let tilted = |form, m: Member, shears, tilt_1, tilt_2| {
-        let h = Header { knowledge: 100, height: 9_000, storeys_above_ground: 3, tilt_1, tilt_2, storey_count: 1, form };
+        let h = Header { knowledge: 100, height: 9_000, storeys: 3, tilt_1, tilt_2, storey_count: 1, form };
         let s = Storey { number: 1, shears, count: 1 };
         let b = judge_building(&h, &[s], &member_rows(&[m]).unwrap()).expect("a good building");
         assert_eq!((b.place, b.case), (0, 0));

@@ -118,10 +118,7 @@ fn the_lines_of_the_page_on_a_case_that_the_form_lacks() {
 
 /// The lines of the listing: those of the section on the order of calls that are set in.
 fn listing() -> String {
-    let page = fs::read_to_string(root().join("docs/CALLS.md")).expect("the page");
-    let (_, section) = page.split_once("## The order of calls\n").expect("the section");
-    let (section, _) = section.split_once("\n## ").expect("its end");
-    section.lines().filter(|line| line.starts_with("    ")).map(|line| format!("{line}\n")).collect()
+    indented(&section("CALLS.md", "## The order of calls")).concat()
 }
 
 /// What listing.c prints for a file, and its exit status.

@@ -1,5 +1,6 @@
 //! An installed copy outside the repository: its files, programs built and run from it, how the library is found, and what the library takes of
 //! a program.
+use compare::documents::{numbered_rows, section};
 use compare::programs::{cargo, is_there, outcome, root, run_on, said, strict};
 use compare::{samples, table};
 use llunareth::raw::VERSION;
@@ -544,8 +545,12 @@ fn the_commands_of_the_page() {
 #[test]
 fn sizes() {
     let outside = installed("sizes");
-    for (name, most) in [("lib/libllunareth.a", 90_000), ("bin/determine", 60_000), ("bin/verdict", 60_000), ("bin/details", 80_000)] {
-        let length = fs::metadata(outside.join("installed").join(name)).expect("a file").len();
+    let stated = section("CALLS.md", "## Installing and linking");
+    let rows = numbered_rows(&stated);
+    assert_eq!(rows.iter().map(|(names, _)| names[0]).collect::<Vec<_>>(), ["libllunareth.a", "determine", "verdict", "details"]);
+    for (names, most) in rows {
+        let (name, folder) = (names[0], if names[0].ends_with(".a") { "lib" } else { "bin" });
+        let length = fs::metadata(outside.join("installed").join(folder).join(name)).expect("a file").len() as usize;
         assert!(0 < length && length <= most, "{name}: {length} bytes");
     }
 }

@@ -18,7 +18,7 @@ fn survey(form: u64, risky: [[bool; CASES]; STOREYS], tilt_2: u64) -> Survey {
     };
     let shears = if form == OLD_FORM { [1_000, 0, 0, 0] } else { [1_000; CASES] };
     Survey {
-        header: Header { knowledge: 100, height: 9_000, storeys_above_ground: 3, tilt_1: 0, tilt_2, storey_count: STOREYS as u64, form },
+        header: Header { knowledge: 100, height: 9_000, storeys: 3, tilt_1: 0, tilt_2, storey_count: STOREYS as u64, form },
         storeys: (0..STOREYS).map(|i| Storey { number: (STOREYS - i) as u64, shears, count: 1 }).collect(),
         members: risky.map(column).to_vec(),
     }

@@ -133,7 +133,7 @@ fn halved_in_the_cases_of_class_b() {
 fn survey(form: u64) -> Survey {
     let members = marked_walls();
     let old = Survey {
-        header: Header { knowledge: 100, height: 3_000, storeys_above_ground: 1, tilt_1: 0, tilt_2: 0, storey_count: 1, form: OLD_FORM },
+        header: Header { knowledge: 100, height: 3_000, storeys: 1, tilt_1: 0, tilt_2: 0, storey_count: 1, form: OLD_FORM },
         storeys: vec![Storey { number: 1, shears: [1_000, 0, 0, 0], count: members.len() as u64 }],
         members: (1..).zip(&members).map(|(number, (m, ..))| Member { number, ..*m }).collect(),
     };

@@ -50,7 +50,7 @@ fn survey(form: u64, shears: [u64; 4], members: &[Member]) -> Survey {
         header: Header {
             knowledge: K,
             height: 3_000,
-            storeys_above_ground: 1,
+            storeys: 1,
             tilt_1: 0,
             tilt_2: 0,
             storey_count: 1,

@@ -98,7 +98,7 @@ fn header(rng: &mut Rng, k: u64, form: u64, storey_count: u64) -> Header {
     Header {
         knowledge: k,
         height: rng.spread(1, 30_000) as u64,
-        storeys_above_ground: rng.spread(storey_count as i128, 10) as u64,
+        storeys: rng.spread(storey_count as i128, 10) as u64,
         tilt_1: tilt(rng),
         tilt_2: tilt(rng),
         storey_count,

@@ -611,7 +611,7 @@ fn tally_building(t: &mut Tally, survey: &Survey) {
     t.note("H_T 30,000", header.height == 30_000);
     t.note(
         "n_s above the storeys",
-        header.storeys_above_ground > header.storey_count,
+        header.storeys > header.storey_count,
     );
 }
 

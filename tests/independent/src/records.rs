@@ -33,7 +33,7 @@ pub struct Header {
     /// H_T, mm.
     pub height: u64,
     /// n_s.
-    pub storeys_above_ground: u64,
+    pub storeys: u64,
     /// Microradians.
     pub tilt_1: u64,
     pub tilt_2: u64,
@@ -127,7 +127,7 @@ impl Header {
         [
             self.knowledge as i128,
             self.height as i128,
-            self.storeys_above_ground as i128,
+            self.storeys as i128,
             self.tilt_1 as i128,
             self.tilt_2 as i128,
             self.storey_count as i128,
@@ -138,7 +138,7 @@ impl Header {
         Header {
             knowledge: values[0] as u64,
             height: values[1] as u64,
-            storeys_above_ground: values[2] as u64,
+            storeys: values[2] as u64,
             tilt_1: values[3] as u64,
             tilt_2: values[4] as u64,
             storey_count: values[5] as u64,
@@ -281,7 +281,7 @@ pub fn short_above_long(m: &Member) -> bool {
 
 /// H_T > 30,000 or n_s > 10.
 pub fn not_low_rise(h: &Header) -> bool {
-    h.height > 30_000 || h.storeys_above_ground > 10
+    h.height > 30_000 || h.storeys > 10
 }
 
 pub fn storey_number_repeated(earlier: &[Storey], number: u64) -> bool {

@@ -280,7 +280,7 @@ fn extreme_records_never_panic() {
                     let h = Header {
                         knowledge: value,
                         height: value,
-                        storeys_above_ground: value,
+                        storeys: value,
                         tilt_1: value,
                         tilt_2: value,
                         storey_count: value,

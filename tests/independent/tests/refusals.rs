@@ -444,7 +444,7 @@ fn records_refused_in_survey_order() {
     assert_eq!(
         of(
             &Header {
-                storeys_above_ground: 1,
+                storeys: 1,
                 ..h
             },
             &[s1, s2],
@@ -455,7 +455,7 @@ fn records_refused_in_survey_order() {
     assert_eq!(
         of(
             &Header {
-                storeys_above_ground: 11,
+                storeys: 11,
                 ..h
             },
             &[s1, s2],
@@ -561,7 +561,7 @@ fn extreme_records_never_panic() {
             let h = Header {
                 knowledge: value,
                 height: value,
-                storeys_above_ground: value,
+                storeys: value,
                 tilt_1: value,
                 tilt_2: value,
                 storey_count: value,

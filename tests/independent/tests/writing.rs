@@ -145,7 +145,7 @@ fn the_longest_numbers() {
         header: Header {
             knowledge: 100,
             height: 30_000,
-            storeys_above_ground: 10,
+            storeys: 10,
             tilt_1: 9_999_999,
             tilt_2: 9_999_999,
             storey_count: 1,
@@ -225,7 +225,7 @@ fn block(storey_count: u64, member_count: u64) -> Survey {
         .map(|number| Member { number, ..member() });
     Survey {
         header: Header {
-            storeys_above_ground: 10,
+            storeys: 10,
             storey_count,
             ..header()
         },
@@ -365,7 +365,7 @@ fn three_for_a_count() {
     // No storey; more storeys than n_s; no member; 201 members.
     assert_eq!(of(&block(0, 0)), 3);
     let mut low = block(4, 1);
-    low.header.storeys_above_ground = 3;
+    low.header.storeys = 3;
     assert_eq!(of(&low), 3);
     assert_eq!(of(&block(1, 0)), 3);
     assert_eq!(of(&block(1, 201)), 3);
@@ -404,10 +404,10 @@ fn five() {
 
 #[test]
 fn seven() {
-    let of = |height, storeys_above_ground| {
+    let of = |height, storeys| {
         let h = Header {
             height,
-            storeys_above_ground,
+            storeys,
             ..header()
         };
         refusal_of_judging(&h, &[storey()], &pair())

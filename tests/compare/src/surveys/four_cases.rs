@@ -22,7 +22,7 @@ pub fn walls_one_direction() -> Survey {
     let column = Member { n_d: 5_200, cases: of_column, ..column_beside_walls() };
     let heavier = Member { n_d: 6_800, cases: of_column.map(|load| LoadCase { n_k: load.n_k + 1_400, ..load }), ..column };
     let floor = vec![Member { boundary_zone: 1, ..wall }, wall, column, column, heavier, heavier];
-    let header = Header { knowledge: 90, height: 3_000, storeys_above_ground: 1, tilt_1: 400, tilt_2: 300, form: CASE_FORM, ..Header::default() };
+    let header = Header { knowledge: 90, height: 3_000, storeys: 1, tilt_1: 400, tilt_2: 300, form: CASE_FORM, ..Header::default() };
     let mut survey = building(header, &[floor]);
     survey.storeys[0].shears = [27_000, 26_500, 17_200, 17_000];
     survey
@@ -44,7 +44,7 @@ pub fn strengthened_wall() -> Survey {
     ];
     let wall = Member { n_d: 6_200, cases: of_wall, ..added_wall() };
     let column = Member { n_d: 5_200, cases: of_column, ..column_beside_walls() };
-    let header = Header { knowledge: 90, height: 6_000, storeys_above_ground: 2, tilt_1: 300, tilt_2: 200, form: CASE_FORM, ..Header::default() };
+    let header = Header { knowledge: 90, height: 6_000, storeys: 2, tilt_1: 300, tilt_2: 200, form: CASE_FORM, ..Header::default() };
     building(header, &[vec![wall, column, column, wall, column, column]])
 }
 
@@ -84,7 +84,7 @@ pub fn risky_in_case_3() -> Survey {
             top(2_700, LoadCase { n_k: 2_950, m_e: 1_900, m_p: 1_250, v_e: 750, v_r: 1_460, v: 1_150, rotation: 5_100, drift: 5_400 }),
         ],
     ];
-    let header = Header { knowledge: 90, height: 6_000, storeys_above_ground: 2, tilt_1: 1_200, tilt_2: 800, form: CASE_FORM, ..Header::default() };
+    let header = Header { knowledge: 90, height: 6_000, storeys: 2, tilt_1: 1_200, tilt_2: 800, form: CASE_FORM, ..Header::default() };
     let mut survey = building(header, &floors.map(|[a, b, c]| vec![a, b, c, a]));
     // By this moment column 2 of the ground floor is over in case 3.
     survey.members[1].cases[2].m_e = 2_600;
@@ -115,7 +115,7 @@ pub fn strengthened_column_first() -> Survey {
             column(2_500, LoadCase { n_k: 2_700, m_e: 2_500, m_p: 1_300, v_e: 780, v_r: 1_480, v: 1_700, rotation: 8_300, drift: 8_600 }),
         ],
     ];
-    let header = Header { knowledge: 90, height: 6_000, storeys_above_ground: 2, tilt_1: 500, tilt_2: 700, form: CASE_FORM, ..Header::default() };
+    let header = Header { knowledge: 90, height: 6_000, storeys: 2, tilt_1: 500, tilt_2: 700, form: CASE_FORM, ..Header::default() };
     let mut survey = building(header, &floors.map(|[a, b, c]| vec![Member { strengthened: 1, ..a }, b, b, c]));
     // On the second floor column 1 is listed after column 2.
     survey.members.swap(4, 5);
@@ -132,7 +132,7 @@ pub fn tension() -> Survey {
     let corner = |first, second| Member { n_d: 1_100, cases: [first, second, across, back], ..column() };
     let hanger = Member { n_d: -350, cases: [-420, -380, -400, -390].map(hung), ..column() };
     let (near, far) = (corner(lifted, pressed), corner(pressed, lifted));
-    let header = Header { knowledge: 90, height: 9_000, storeys_above_ground: 3, tilt_1: 300, tilt_2: 200, form: CASE_FORM, ..Header::default() };
+    let header = Header { knowledge: 90, height: 9_000, storeys: 3, tilt_1: 300, tilt_2: 200, form: CASE_FORM, ..Header::default() };
     building(header, &[vec![near, near, hanger, far, far]])
 }
 
@@ -170,7 +170,7 @@ pub fn every_field_apart() -> Survey {
         Member { number: 3_000, strengthened: 1, factor: 93, damage_kind: 4, n_d: 283, ..Member::default() },
     ];
     Survey {
-        header: Header { knowledge: 90, height: 9_001, storeys_above_ground: 3, tilt_1: 1_202, tilt_2: 803, storey_count: 2, form: CASE_FORM },
+        header: Header { knowledge: 90, height: 9_001, storeys: 3, tilt_1: 1_202, tilt_2: 803, storey_count: 2, form: CASE_FORM },
         storeys: vec![
             Storey { number: 71, shears: [5_002, 5_103, 5_204, 5_305], count: 1 },
             Storey { number: 82, shears: [6_003, 6_104, 6_205, 6_306], count: 2 },

@@ -80,7 +80,7 @@ pub fn plain_block_times(times: usize) -> Survey {
         column(1_800, LoadCase { n_k: 1_950, m_e: 1_900, m_p: 1_250, v_e: 750, v_r: 1_460, v: 1_150, rotation: 5_100, drift: 5_400 }),
         column(1_200, LoadCase { n_k: 1_400, m_e: 1_700, m_p: 1_150, v_e: 690, v_r: 1_460, v: 950, rotation: 4_900, drift: 5_400 }),
     ];
-    let header = Header { knowledge: 90, height: 9_000, storeys_above_ground: 3, tilt_1: 1_200, tilt_2: 800, form: OLD_FORM, ..Header::default() };
+    let header = Header { knowledge: 90, height: 9_000, storeys: 3, tilt_1: 1_200, tilt_2: 800, form: OLD_FORM, ..Header::default() };
     building(header, &[ground, second, third].map(|floor| floor.repeat(times)))
 }
 
@@ -99,7 +99,7 @@ pub fn walls() -> Survey {
         column(4_600, LoadCase { n_k: 4_750, m_e: 3_200, m_p: 1_700, v_e: 1_000, v_r: 1_650, v: 2_200, rotation: 6_100, drift: 6_200 }),
     ];
     let floor = |[wall, a, b]: [Member; 3]| vec![Member { boundary_zone: 1, ..wall }, wall, a, a, a, a, b, b, b, b];
-    let header = Header { knowledge: 90, height: 9_000, storeys_above_ground: 3, tilt_1: 400, tilt_2: 300, form: OLD_FORM, ..Header::default() };
+    let header = Header { knowledge: 90, height: 9_000, storeys: 3, tilt_1: 400, tilt_2: 300, form: OLD_FORM, ..Header::default() };
     building(header, &[ground, second].map(floor))
 }
 
@@ -107,8 +107,8 @@ pub fn walls() -> Survey {
 
 /// One storey, in a building of so many storeys of 3 m.
 pub fn one_storey(knowledge: u64, storeys: u64, members: Vec<Member>) -> Survey {
-    let (height, storeys_above_ground) = (3_000 * storeys, storeys);
-    let header = Header { knowledge, height, storeys_above_ground, tilt_1: 300, tilt_2: 200, form: OLD_FORM, ..Header::default() };
+    let (height, storeys) = (3_000 * storeys, storeys);
+    let header = Header { knowledge, height, storeys, tilt_1: 300, tilt_2: 200, form: OLD_FORM, ..Header::default() };
     building(header, &[members])
 }
 

@@ -4,14 +4,14 @@ use super::old_form::{column, loaded, one_storey};
 use independent::lines::OLD_FORM;
 use independent::{Header, LoadCase, Member, Survey};
 
-/// Two storeys of 3 m on a good footing, with these columns.
+/// Two storeys of 3 m with these columns.
 fn two_storeys(ground: Vec<Member>, second: Vec<Member>) -> Survey {
-    let header = Header { knowledge: 90, height: 6_000, storeys_above_ground: 2, tilt_1: 400, tilt_2: 300, form: OLD_FORM, ..Header::default() };
+    let header = Header { knowledge: 90, height: 6_000, storeys: 2, tilt_1: 400, tilt_2: 300, form: OLD_FORM, ..Header::default() };
     building(header, &[ground, second])
 }
 
-/// Six columns on each floor, the third and fourth inside. A crack wider than 2 mm stayed in one on each floor; another on the ground floor lost
-/// its cover.
+/// Six columns in each storey, the third and fourth inside. A crack wider than 2 mm stayed in one of each storey; another of the first lost its
+/// cover.
 pub fn damage() -> Survey {
     let column = |n_d, load| loaded(column(), n_d, load);
     let cracked = |member| Member { damage_kind: 1, factor: 75, ..member };
@@ -26,7 +26,7 @@ pub fn damage() -> Survey {
     )
 }
 
-/// Four columns on each floor; the building leans by more than 0.025 in one direction.
+/// Four columns in each storey; the building leans by more than 0.025 in one direction.
 pub fn tilt() -> Survey {
     let column = |n_d, load| loaded(column(), n_d, load);
     let ground = column(3_200, LoadCase { n_k: 3_700, m_e: 2_600, m_p: 1_500, v_e: 900, v_r: 1_500, v: 1_500, rotation: 7_400, drift: 7_900 });

@@ -114,7 +114,7 @@ pub fn block(storey_count: u64, count: u64) -> Survey {
     let [m, _] = members();
     let mut survey = Survey {
         header: Header {
-            storeys_above_ground: 10,
+            storeys: 10,
             storey_count,
             ..header()
         },

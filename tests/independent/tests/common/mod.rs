@@ -63,7 +63,7 @@ pub fn header() -> Header {
     Header {
         knowledge: 100,
         height: 9000,
-        storeys_above_ground: 3,
+        storeys: 3,
         tilt_1: 0,
         tilt_2: 0,
         storey_count: 1,

@@ -11,7 +11,7 @@ pub const MEMBER_FIELDS: usize = 27;
 pub struct Header {
     pub knowledge: u64,
     pub height: u64,
-    pub storeys_above_ground: u64,
+    pub storeys: u64,
     pub tilt_1: u64,
     pub tilt_2: u64,
     pub storey_count: u64,
@@ -84,7 +84,7 @@ impl Header {
         [
             self.knowledge as i128,
             self.height as i128,
-            self.storeys_above_ground as i128,
+            self.storeys as i128,
             self.tilt_1 as i128,
             self.tilt_2 as i128,
             self.storey_count as i128,
@@ -95,7 +95,7 @@ impl Header {
         Header {
             knowledge: f[0] as u64,
             height: f[1] as u64,
-            storeys_above_ground: f[2] as u64,
+            storeys: f[2] as u64,
             tilt_1: f[3] as u64,
             tilt_2: f[4] as u64,
             storey_count: f[5] as u64,
