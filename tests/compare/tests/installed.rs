@@ -216,9 +216,9 @@ fn the_installed_programs() {
 #[test]
 fn installed_under_destdir_and_taken_away() {
     let outside = Outside::new("destdir");
-    let args = [format!("DESTDIR={}", outside.join("staged").display()), "PREFIX=/opt/llunareth".to_string()];
+    let args = [format!("DESTDIR={}", outside.join("staged").display()), "PREFIX=/usr/llunareth".to_string()];
     assert_done(&install(&root(), &args));
-    let copy = outside.join("staged/opt/llunareth");
+    let copy = outside.join("staged/usr/llunareth");
     let list = fs::read_to_string(copy.join("share/llunareth/installed")).expect("the list");
     let own = copy.join("share/llunareth/installed");
     let listed: BTreeSet<PathBuf> = list.lines().map(|line| copy.join(line.trim_start_matches("./"))).chain([own]).collect();
@@ -227,7 +227,7 @@ fn installed_under_destdir_and_taken_away() {
         assert!(copy.join(name).is_file(), "{name}");
     }
     let text = fs::read_to_string(copy.join("lib/pkgconfig/llunareth.pc")).expect("the file for pkg-config");
-    assert!(text.starts_with("prefix=/opt/llunareth\n"), "{text}");
+    assert!(text.starts_with("prefix=/usr/llunareth\n"), "{text}");
     fs::write(copy.join("lib/another"), "").expect("written");
     assert_done(&install(&root(), &[&["uninstall".to_string()], &args[..]].concat()));
     assert_eq!(files(&copy), [copy.join("lib/another")]);
