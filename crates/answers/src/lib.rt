@@ -40,16 +40,24 @@ pub(crate) fn put_parts(out: &mut [u64], first: &[u64], rest: &[u64])
     }
 }
 
-// Puts the numbers of an accepted answer to the front of `out`. Gives the refusal, 0 where there is none.
-pub fn put_answer<A: Values + Drop>(out: &mut [u64], answer: Result<A, Refusal>) -> u64
-    ensures value { result ≡ packed (returned_by A.values (numbered answer)) }
-    ensures out_after { out.new ≡ at_front (returned_by A.values (numbered answer)).values out.old }
+// Puts the numbers of an accepted answer to the front of `out`. Gives the number that an answer is refused by, 0 where it is accepted.
+pub fn put_numbered<A: Values + Drop>(out: &mut [u64], answer: Result<A, u64>) -> u64
+    ensures value { result ≡ packed (returned_by A.values answer) }
+    ensures out_after { out.new ≡ at_front (returned_by A.values answer).values out.old }
 {
     match answer {
         Ok(a) => {
             a.put(out);
             0
         }
-        Err(refusal) => refusal.number(),
+        Err(number) => number,
     }
+}
+
+// Puts the numbers of an accepted answer to the front of `out`. Gives the refusal, 0 where there is none.
+pub fn put_answer<A: Values + Drop>(out: &mut [u64], answer: Result<A, Refusal>) -> u64
+    ensures value { result ≡ packed (returned_by A.values (numbered answer)) }
+    ensures out_after { out.new ≡ at_front (returned_by A.values (numbered answer)).values out.old }
+{
+    put_numbered(out, answer.map_err(|refusal| refusal.number()))
 }

@@ -14,6 +14,7 @@ ghost use Rattle.checks.specs.RowsInTurn.{storeys_left, members_left};
 
 use crate::row::check_among;
 use crate::storey_rows::StoreyRows;
+use records::by_form_number::form_for;
 use records::form::Form;
 use records::refusal::Refusal;
 use records::{Header, Member, Storey};
@@ -35,6 +36,14 @@ pub fn check_members(form: Form, rows: &[Member]) -> Result<(), Refusal>
         check_among(form, &rows[..j], m)?;
     }
     Ok(())
+}
+
+// The same by the number of a form; one that is that of no form is taken as the old form.
+#[tactic(auto, using(crate::proofs::OtherForms::member_rows_fault_for))]
+pub fn members_fault(form: u64, rows: &[Member]) -> Result<(), Refusal>
+    ensures { fault_of result ≡ member_rows_fault form rows.now }
+{
+    check_members(form_for(form), rows)
 }
 
 // The counts of the storeys add up to `rows`. Each count is taken from the rows still left, so that nothing can overflow.

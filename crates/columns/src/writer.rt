@@ -15,13 +15,22 @@ pub struct ColumnWriter<'a> {
 }
 
 impl<'a> ColumnWriter<'a> {
+    // A writer from a place on. Past the end of the bytes nothing fits.
+    pub fn from_place(bytes: &'a mut [u8], at: usize) -> ColumnWriter<'a>
+        ensures same_bytes { result.bytes.ghost_name ≡ bytes.entry.ghost_name }
+        ensures bytes { result.bytes.now ≡ bytes.old }
+        ensures at { result.at ≡ at }
+    {
+        ColumnWriter { bytes, at }
+    }
+
     // A writer from the front of some bytes.
     pub fn new(bytes: &'a mut [u8]) -> ColumnWriter<'a>
         ensures same_bytes { result.bytes.ghost_name ≡ bytes.entry.ghost_name }
         ensures bytes { result.bytes.now ≡ bytes.old }
         ensures at { result.at ≡ 0 }
     {
-        ColumnWriter { bytes, at: 0 }
+        ColumnWriter::from_place(bytes, 0)
     }
 
     // The place after what was put.

@@ -9,13 +9,17 @@ use Rattle.std.proofs.KnownBytes.{Appends-trans, Consumes-trans}
 use Rattle.std.specs.declared.io.Error.{Error}
 use borrow.Rule.Slice.PartMut.{put_mid, post_of}
 use lib.Seq.{take-add, take-append-le}
-use Rattle.determine.specs.Transfer.{moved_of}
+use Rattle.determine.specs.Transfer.{moved_of, Moving}
 
 -- a call that moved bytes returned how many
 returned : (r : Result ℕ Error) (n : ℕ) → moved_of r ≡ Ok (Some n) → r ≡ Ok n
 returned (Ok zero) n e = cc
 returned (Ok (suc k)) n e = cc
 returned (Err x) n e = cc
+
+-- and that is what it told last
+pub moving : (r last : Result ℕ Error) (n : ℕ) → moved_of r ≡ Ok (Some n) → r ≡ last → Moving (moved_of last)
+moving r last n e q = subst (λ (x : Result ℕ Error). Moving (moved_of x)) q (subst Moving (sym e) tt)
 
 -- the bytes written before and those of one more write
 pub written_more : (r : Result ℕ Error) (n done : ℕ) (a b c : Option (List ℕ)) (bytes : List ℕ) → moved_of r ≡ Ok (Some n) → WritesAtMost r (slice_range bytes done (length bytes)) → Appends a b (take done bytes) → WriteAppends b c r (slice_range bytes done (length bytes)) → Appends a c (take (done + n) bytes)

@@ -1,4 +1,4 @@
--- The line of a file's refusal is small: before the line stand storeys and members that were counted by good lines.
+-- The number of a file's refusal and its line are small: before the line stand storeys and members that were counted by good lines.
 use Prim.Native.Nat.{ℕ, zero, suc, ◌+◌, ◌*◌, ◌≤◌, ◌<◌}
 use native.Mathlib.Omega.{arith}
 use mathlib.Core.Bool.{Bool, true, false}
@@ -19,6 +19,7 @@ use Rattle.reading.proofs.Lines.{storey-good}
 use Rattle.reading.proofs.Turns.{line_clear}
 use Rattle.reading.proofs.Accepted.{storey-checks, storey-held}
 use Rattle.reading.proofs.Numbers.{ten-storeys}
+use Rattle.reading.proofs.Numbered as Numbered
 use Rattle.exports.specs.Calls.{reading_returned}
 
 either : (t : Bool) (f g : Fault) (n : ℕ) → (t ≡ true → f.line ≤ n) → g.line ≤ n → (pick t f g).line ≤ n
@@ -108,6 +109,14 @@ module _ (s : List ℕ) (srows mrows : ℕ) where
       either (eqb own.number 0) (lines_fault (form_of s) s srows mrows n) own 20_004
       (λ e. lines-most (form_of s) s srows mrows n (ten-storeys s (line_clear 1 (header_line_fault s) (eqb-true own.number 0 e))))
       (omega (arith, at_most 1 (header_line_fault s)))
+
+  refusal-by : (t : Bool) → eqb (survey_fault s srows mrows).number 0 ≡ t → (reading_returned (told (survey s srows mrows))).refusal ≤ 12
+  unfolding survey
+  refusal-by true e = rw e (omega arith)
+  refusal-by false e = rw e (omega (arith, Numbered.fault-most s srows mrows))
+
+  pub refusal-most : (reading_returned (told (survey s srows mrows))).refusal ≤ 12
+  refusal-most = refusal-by (eqb (survey_fault s srows mrows).number 0) refl
 
   told-most : (t : Bool) → eqb (survey_fault s srows mrows).number 0 ≡ t → (reading_returned (told (survey s srows mrows))).line ≤ 65_536
   unfolding survey

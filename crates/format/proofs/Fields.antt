@@ -2,7 +2,8 @@
 use Prim.Native.Nat.{ℕ, ◌+◌, ◌*◌, ◌≤◌, ◌<◌}
 use native.Mathlib.Omega.{arith}
 use native.Mathlib.Nat.{not-suc-le-zero}
-use mathlib.Core.Bool.{Bool, true, false}
+use native.Mathlib.Numerals.{add-one}
+use mathlib.Core.Bool.{Bool, true, false, ◌&&◌}
 use mathlib.Core.List.{List}
 use mathlib.Core.Path.{◌≡◌, refl, ap, sym, ◌∙◌}
 use lib.Dec.{ltb}
@@ -10,17 +11,17 @@ use lib.ListN.{length, get_or, set, length-set}
 use lib.Seq.{get_or-set_same, get_or-set_other}
 use borrow.Author.Count.{below_more}
 use borrow.Author.Tests.{le-leb, lt-ltb}
-use Rattle.std.specs.Prelude.{Option, Some, None, unwrap_or, Result, Ok, Err, ok_or}
+use Rattle.std.specs.Prelude.{Option, Some, None, is_some, unwrap_or, Result, Ok, Err, ok_or}
 use Rattle.records.specs.Notation.{pick, every_below, first}
 use Rattle.records.specs.Records.{Allowed, allows, never, ranges, fields, in_range}
 use Rattle.records.specs.declared.refusal.Refusal.{Refusal, TheVariants.Spelling}
 use Rattle.records.specs.Refusals.{refusal_number}
-use Rattle.format.specs.Lines.{field_at, is_written, value_at, fault_in, field_fault, fields_fault, holds_fields, written_fault}
+use Rattle.format.specs.Lines.{field_at, is_written, value_at, fault_in, field_fault, fields_fault, holds_fields, written_fault, number_held, FieldsOf}
 use Rattle.records.specs.declared.Kind.{Kind}
 use Rattle.records.specs.declared.Kind.TheVariants.{M}
 use Rattle.records.proofs.Firsts.{first-none, first_next, first-kept, first-clear, first-zero}
 use Rattle.records.proofs.Validity.{clear}
-use Rattle.records.proofs.Below.{every-none, every_more, every-fails, every-at, every_of}
+use Rattle.records.proofs.Below.{every-none, every_more, every-fails, every-at, every_of, every-same}
 use Rattle.records.proofs.Allowing.{three-fields}
 use Rattle.records.proofs.Lines.{InRanges}
 
@@ -154,3 +155,55 @@ module _ (t : Kind) (s : List ℕ) (at : ℕ) where
 
   pub read-fits : (v : ℕ) → v ≡ pick (holds_fields t s at) (written_fault t s at) 1 → at + 1 + 8 * fields t ≤ length s → v ≡ written_fault t s at
   read-fits v e h = e ∙ rw (le-leb (at + 1 + 8 * fields t) (length s) h)
+
+-- ---- the number of each field, and whether all are written
+pub record Told (t : Kind) (s : List ℕ) (at : ℕ) (values : List ℕ) (written : Bool) (j : ℕ) : Type 0 where
+  pub size : length values ≡ fields M
+  pub all-written : written ≡ every_below (λ k. is_written (number_held t s at k)) j
+  pub told : (k : ℕ) → k < j → get_or values k 0 ≡ unwrap_or (number_held t s at k) 0
+
+next-written : (p : ℕ → Bool) (j : ℕ) → every_below p (j + 1) ≡ (every_below p j && p j)
+unfolding every_below
+next-written p j = rw add-one
+
+some-written : (o : Option ℕ) → is_some o ≡ is_written o
+some-written (Some v) = refl
+some-written None = refl
+
+module _ (t : Kind) (s : List ℕ) (at : ℕ) where
+  abbrev held_at : ℕ → Bool
+  held_at k = is_written (number_held t s at k)
+
+  pub told-first : (values : List ℕ) → length values ≡ fields M → Told t s at values true 0
+  told-first values g = record { size = g; all-written = sym (every-none held_at); told = λ k l. absurd (not-suc-le-zero l) }
+
+  pub told-next : (values : List ℕ) (written : Bool) (j : ℕ) → Told t s at values written j → j < fields M → (o : Option ℕ) → o ≡ number_held t s at j → Told t s at (set values j (unwrap_or o 0)) (written && is_some o) (j + 1)
+  told-next values written j so h o e =
+      record {
+        size = length-set values j (unwrap_or o 0) ∙ so.size;
+        all-written = rw (so.all-written, some-written o, e) (sym (next-written held_at j));
+        told =
+            below_more _ j (λ k l. get_or-set_other values j k (unwrap_or o 0) 0 (λ p. let z : ⊥ = omega arith in absurd z) ∙ so.told k l)
+            (get_or-set_same values j (unwrap_or o 0) 0 (omega (arith, h, so.size)) ∙ ap (λ (o : Option ℕ). unwrap_or o 0) e);
+      }
+
+  held-by : (b : Bool) → holds_fields t s at ≡ b → (j : ℕ) → j < fields t → number_held t s at j ≡ pick b (field_at t s at j) None
+  held-by true e j h = rw (e, lt-ltb j (fields t) h)
+  held-by false e j h = rw e
+
+  written-by : (b : Bool) → holds_fields t s at ≡ b → every_below held_at (fields t) ≡ (b && every_below (written_at t s at) (fields t))
+  written-by true e = every-same held_at (written_at t s at) (fields t) (λ j h. ap is_written (held-by true e j h))
+  written-by false e =
+      let h : 0 < fields t = omega (arith, three-fields t) in
+      every-fails held_at (fields t) 0 h (ap is_written (held-by false e 0 h))
+
+  value-by : (b : Bool) → holds_fields t s at ≡ b → (j : ℕ) → j < fields t → unwrap_or (number_held t s at j) 0 ≡ pick b (value_at t s at j) 0
+  value-by true e j h = ap (λ (o : Option ℕ). unwrap_or o 0) (held-by true e j h)
+  value-by false e j h = ap (λ (o : Option ℕ). unwrap_or o 0) (held-by false e j h)
+
+  pub told-all : (values : List ℕ) (written : Bool) → Told t s at values written (fields t) → FieldsOf t s at (record { written = written; values = values })
+  told-all values written so =
+      record {
+        written = so.all-written ∙ written-by (holds_fields t s at) refl;
+        values = λ j h. so.told j h ∙ value-by (holds_fields t s at) refl j h;
+      }

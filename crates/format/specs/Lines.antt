@@ -5,6 +5,7 @@ use Rattle.records.specs.Notation.{ℕ, suc, Bool, true, false, List, [], leb, l
 use Rattle.records.specs.declared.{Header.Header, Storey.Storey, LoadCase.LoadCase, Member.Member, Kind.Kind, Kind.TheVariants.B, Kind.TheVariants.S, Kind.TheVariants.M, Kind.TheVariants.S4, Kind.TheVariants.M4, Kind.TheVariants.D}
 use Rattle.records.specs.Records.{Allowed, allows, never, ranges, fields, last_field, in_cases, storey_kind, member_kind, header_by, storey_by, case_by, old_cases, member_by}
 use Rattle.format.specs.Spelling.{field_of}
+use Rattle.format.specs.declared.lines.FieldNumbers.{FieldNumbers}
 
 -- "its tag in column 1, a byte B, S or M"; D of a load case (document 02, N3)
 abbrev pub tag_byte : Kind → ℕ
@@ -81,6 +82,11 @@ written_fault kind s at = pick (every_below (λ j. is_written (field_at kind s a
 -- vs are the numbers that a line's fields hold
 abbrev pub Holds : Kind → List ℕ → ℕ → List ℕ → Type 0
 Holds kind s at vs = (j : ℕ) → j < fields kind → get_or vs j 0 ≡ value_at kind s at j
+
+-- the numbers that a line's fields hold, and whether all are written as they must be; where the bytes end before the line's fields, none is written and each is 0
+pub record FieldsOf (kind : Kind) (s : List ℕ) (at : ℕ) (r : FieldNumbers) : Type 0 where
+  pub written : r.written ≡ (holds_fields kind s at && every_below (λ j. is_written (field_at kind s at j)) (fields kind))
+  pub values : (j : ℕ) → j < fields kind → get_or r.values j 0 ≡ pick (holds_fields kind s at) (value_at kind s at j) 0
 
 -- the records that lines hold, in a form
 unfoldable pub header_at : ℕ → List ℕ → ℕ → Header

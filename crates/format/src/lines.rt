@@ -3,7 +3,7 @@ ghost use Rattle.std.specs.Prelude.{◌≡◌, drop, is_some, IfSome, IfOk};
 ghost use Rattle.records.specs.Notation.{pick};
 ghost use Rattle.records.specs.Forms.{form_number};
 ghost use Rattle.records.specs.Refusals.{fault_of};
-ghost use Rattle.format.specs.Lines.{tag_byte, line_size, case_lines, member_size, line_end, shaped, is_force, fields_fault, framed, holds_fields, written_fault, number_held, Holds};
+ghost use Rattle.format.specs.Lines.{tag_byte, line_size, case_lines, member_size, line_end, shaped, is_force, fields_fault, framed, holds_fields, written_fault, number_held, Holds, FieldsOf};
 
 use crate::line_fields::HeldLine;
 use records::form::Form;
@@ -81,6 +81,13 @@ pub fn line_length(s: &[u8], at: usize) -> usize
     line_end(rest(s, at))
 }
 
+// The numbers of a line's fields, in order, and whether all of them are written as they must be.
+#[derive(Clone, Copy)]
+pub struct FieldNumbers {
+    pub written: bool,
+    pub values: [u64; FIELDS_MOST],
+}
+
 // A line of a file, of the kind due where it begins.
 #[derive(Clone, Copy)]
 pub struct Line<'a> {
@@ -133,6 +140,20 @@ impl Line<'_> {
         ensures { result ≡ number_held self.now.kind self.now.file.now self.now.at j }
     {
         self.held()?.number(j)
+    }
+
+    // The number of each field, 0 for one that is not written as it must be, and whether all are written; where the bytes end before the line's fields, none is.
+    pub fn field_numbers(&self) -> FieldNumbers
+        ensures { FieldsOf self.now.kind self.now.file.now self.now.at result }
+    {
+        let mut written = true;
+        let mut values = [0; FIELDS_MOST];
+        for j in 0..self.kind.field_count() {
+            let number = self.number(j);
+            written &= number.is_some();
+            values[j] = number.unwrap_or(0);
+        }
+        FieldNumbers { written, values }
     }
 
     // The first refusal among its fields, or that the bytes end before them.

@@ -2,7 +2,7 @@
 ghost use Rattle.std.specs.Prelude.{◌≡◌, ◌<◌};
 ghost use Rattle.records.specs.Refusals.{numbered};
 ghost use Rattle.hazard.specs.Codes.{Classed, class_number};
-ghost use Rattle.hazard.specs.Site.{motion, row_of, site_of, site_answer};
+ghost use Rattle.hazard.specs.Site.{motion, row_of, site_of, site_answer, returned_site, site_returned};
 ghost use Rattle.hazard.specs.Sizes.{SizedSite};
 
 use crate::table::{ONE_SECOND, SHORT_PERIOD};
@@ -89,7 +89,8 @@ impl SiteClass {
 // The call on a site: its class, 1 to 6 for ZA to ZF, and the map coefficients of one level of ground motion.
 #[tactic(auto, using(crate::proofs::Accepted::codes), unfolding(crate::specs::Site::site_answer, crate::specs::Refusals::site_fault))]
 pub fn site_coefficients(class: u64, ss: u64, s1: u64) -> Result<Site, Refusal>
-    ensures { numbered result ≡ site_answer class (motion ss s1) }
+    ensures answer { numbered result ≡ site_answer class (motion ss s1) }
+    ensures returned { returned_site (numbered result) ≡ site_returned class ss s1 }
 {
     let motion = MapMotion::try_from(Motion { ss, s1 })?;
     let class = SiteClass::try_from(class)?;

@@ -3,7 +3,7 @@ ghost use Rattle.std.specs.Prelude.{◌≡◌, ◌≤◌};
 ghost use Rattle.records.specs.Refusals.{numbered};
 ghost use Rattle.hazard.specs.Codes.{Used, class_number, usage_number};
 ghost use Rattle.hazard.specs.Site.{site_of};
-ghost use Rattle.hazard.specs.Spectrum.{level, spectral, level_of, spectrum_at, spectrum_answer};
+ghost use Rattle.hazard.specs.Spectrum.{level, spectral, level_of, spectrum_at, spectrum_answer, returned_spectrum, spectrum_returned};
 ghost use Rattle.hazard.specs.Sizes.{SizedFraction, SizedLevel, SizedSite};
 
 use crate::site::{Motion, Site, SiteClass};
@@ -128,7 +128,8 @@ pub fn spectrum(
     dd2: Motion,
     period: u64,
 ) -> Result<u64, Refusal>
-    ensures { numbered result ≡ spectrum_answer class usage dd1 dd2 period }
+    ensures answer { numbered result ≡ spectrum_answer class usage dd1 dd2 period }
+    ensures returned { returned_spectrum (numbered result) ≡ spectrum_returned class usage dd1 dd2 period }
 {
     let dd1 = MapMotion::try_from(dd1)?;
     let dd2 = MapMotion::try_from(dd2)?;

@@ -1,4 +1,5 @@
 pub mod Arithmetic
+pub mod Assembly
 pub mod Published
 pub mod Falling
 pub mod Fractions

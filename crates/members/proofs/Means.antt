@@ -1,6 +1,6 @@
 -- A value between rows is a mean of their limits: it is within what bounds them, whatever the table. So no product of the code wraps.
 use Prim.Native.Nat.{ℕ, ◌+◌, ◌-◌, ◌*◌, ◌≤◌, ◌<◌}
-use native.Mathlib.Nat.{mul-le-mul_right, mul-pos}
+use native.Mathlib.Nat.{le_trans, mul-le-mul_right, mul-pos}
 use native.Mathlib.Decide.{dec_le}
 use native.Mathlib.Omega.{arith}
 use mathlib.Core.List.{List, [], ◌∷◌}
@@ -17,7 +17,7 @@ use Rattle.members.specs.declared.tables.Places.{Places}
 use Rattle.members.specs.declared.tables.Table.{Table}
 use Rattle.members.specs.Tables.{two}
 use Rattle.members.specs.Limits.{interp, row_limit, segment, blend, gap, clamp, per, column_a, column_b, column_c, wall_rows, wall_b, exact, quarters}
-use Rattle.members.specs.Sizes.{Places2, Most2, SizedPlaces, SizedTable, Mean}
+use Rattle.members.specs.Sizes.{Places2, Most2, Most4, SizedPlaces, SizedTable, Mean}
 use Rattle.members.proofs.Arithmetic.{product}
 use Rattle.members.proofs.Interpolation.{up_to, inside, past, alone}
 
@@ -62,6 +62,27 @@ unfolding blend
 blend-within {most} at y x a m =
     let e : gap at ≡ (slice_index at 1 - clamp at x) + (clamp at x - slice_index at 0) = omega (arith, a.first) in
     rw e (omega (arith, mul-le-mul_right (slice_index at 1 - clamp at x) m.r1, mul-le-mul_right (clamp at x - slice_index at 0) m.r2))
+
+-- limits of at most so much are of at most more
+raised2 : {most more : ℕ} {t : List ℕ} → most ≤ more → Most2 most t → Most2 more t
+raised2 h m = record { r1 = le_trans m.r1 h; r2 = le_trans m.r2 h }
+
+raised4 : {most more : ℕ} {f : List ℕ} → most ≤ more → Most4 most f → Most4 more f
+raised4 h m = record { r1 = le_trans m.r1 h; r2 = le_trans m.r2 h; r3 = le_trans m.r3 h; r4 = le_trans m.r4 h }
+
+pub raised : {most more : ℕ} {t : Table} → most ≤ more → SizedTable most t → SizedTable more t
+raised h s =
+    record {
+      a = raised4 h s.a;
+      b1 = raised4 h s.b1;
+      b2 = raised4 h s.b2;
+      c = raised2 h s.c;
+      zone1 = raised2 h s.zone1;
+      zone2 = raised2 h s.zone2;
+      plain1 = raised2 h s.plain1;
+      plain2 = raised2 h s.plain2;
+      wall = raised2 h s.wall;
+    }
 
 -- one direction, and two
 one_way : {most : ℕ} {f : Fraction} → Within most f → Mean most f

@@ -6,6 +6,9 @@ use mathlib.Core.Path.{◌≡◌, refl, ap, sym, ◌∙◌}
 use lib.Dec.{eqb}
 use lib.ListN.{get_or}
 use Rattle.records.specs.Notation.{pick}
+use Rattle.records.specs.Refusals.{numbered}
+use Rattle.records.specs.declared.refusal.Refusal.{Refusal}
+use Rattle.records.proofs.Refusals.{numbered-is}
 use Rattle.members.specs.declared.class.Class.{Class}
 use Rattle.members.specs.declared.class.Class.TheVariants.{ColumnA, ColumnB, ColumnC, WallA, WallB}
 use Rattle.members.specs.declared.finding.Finding.{Finding}
@@ -56,3 +59,7 @@ answer-told (Err n) = refl
 
 pub case-answer-is : (a b : Result Finding ℕ) → returned_case a ≡ returned_case b → a ≡ b
 case-answer-is a b e = sym (answer-told a) ∙ ap (λ (r : Returned). answer-by r.refusal r.values) e ∙ answer-told b
+
+-- so of what the call itself gives, which has the refusal
+pub case-outcome-is : (a b : Result Finding Refusal) → returned_case (numbered a) ≡ returned_case (numbered b) → a ≡ b
+case-outcome-is a b e = numbered-is a b (case-answer-is (numbered a) (numbered b) e)

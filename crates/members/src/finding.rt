@@ -2,7 +2,7 @@
 ghost use Rattle.std.specs.Prelude.{◌≡◌};
 ghost use Rattle.records.specs.Refusals.{numbered};
 ghost use Rattle.records.specs.Records.{member_case_fault, member_fault, in_case};
-ghost use Rattle.members.specs.Finding.{finding, findings_by, case_answer_by, answer_by};
+ghost use Rattle.members.specs.Finding.{finding, findings_by, case_answer_by, answer_by, returned_case, case_returned, returned, member_returned};
 ghost use Rattle.members.specs.Tables.{published};
 
 use crate::class::Class;
@@ -36,10 +36,11 @@ pub struct Finding {
 // The call on a member in one load case: k is its survey's knowledge level.
 #[tactic(auto, unfolding(crate::specs::Finding::case_answer_by))]
 pub fn judge_case(k: u64, met: bool, m: MemberCase) -> Result<Finding, Refusal>
-    ensures { numbered result ≡ case_answer_by published k met m }
+    ensures answer { numbered result ≡ case_answer_by published k met m }
+    ensures returned { returned_case (numbered result) ≡ case_returned k met m }
 {
-    let k = Knowledge::try_from(k)?;
-    let good = GoodCase::new(k, m)?;
+    let level = Knowledge::try_from(k)?;
+    let good = GoodCase::new(level, m)?;
     Ok(good.find(met))
 }
 
@@ -78,7 +79,8 @@ pub fn judge_member(
     met: FourCases<bool>,
     m: &Member,
 ) -> Result<ByForm<Finding>, Refusal>
-    ensures { numbered result ≡ answer_by published k form met m.now }
+    ensures answer { numbered result ≡ answer_by published k form met m.now }
+    ensures returned { returned (numbered result) ≡ member_returned k form met m.now }
 {
     let k = Knowledge::try_from(k)?;
     let form = Form::try_from(form)?;

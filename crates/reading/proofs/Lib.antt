@@ -8,4 +8,5 @@ pub mod Numbers
 pub mod Placed
 pub mod Filling
 pub mod Accepted
+pub mod Numbered
 pub mod Passed

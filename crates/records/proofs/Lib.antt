@@ -7,4 +7,5 @@ pub mod Forms
 pub mod OtherForms
 pub mod Validity
 pub mod Lines
+pub mod Structs
 pub mod Made

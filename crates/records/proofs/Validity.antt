@@ -135,6 +135,9 @@ shear-at false s (suc c) r h = let z : ⊥ = omega arith in absurd z
 pub shear-most : (form : ℕ) (s : Storey) (c : ℕ) → storey_fault form s ≡ 0 → c < case_count form → shear_of c s ≤ 9_999_999
 shear-most form s c e h = most 1 9_999_999 (shear_of c s) (shear-at (in_cases form) s c (storey-ranged form s e) h)
 
+pub shear-least : (form : ℕ) (s : Storey) (c : ℕ) → storey_fault form s ≡ 0 → c < case_count form → 1 ≤ shear_of c s
+shear-least form s c e h = least 1 9_999_999 (shear_of c s) (shear-at (in_cases form) s c (storey-ranged form s e) h)
+
 count_at : (t : Bool) (s : Storey) → Ranged (pick t S4 S) (pick t (s.number ∷ shear_of 0 s ∷ shear_of 1 s ∷ shear_of 2 s ∷ shear_of 3 s ∷ s.count ∷ []) (s.number ∷ shear_of 0 s ∷ s.count ∷ [])) → allows count_range s.count ≡ true
 count_at true s r = every-at (in_range S4 (storey_values 2 s)) 6 5 r (omega arith)
 count_at false s r = every-at (in_range S (storey_values 1 s)) 3 2 r (omega arith)

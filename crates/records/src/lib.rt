@@ -3,6 +3,7 @@
 #![tactic(auto)]
 
 pub mod by_case;
+pub mod by_form_number;
 pub mod form;
 pub mod numbers;
 pub mod refusal;

@@ -7,7 +7,7 @@ ghost use Rattle.storeys.specs.Storey.{published_rules, storey_risky};
 ghost use Rattle.storeys.specs.Building.{some_risky};
 ghost use Rattle.columns.specs.Writer.{HasRoom, Written};
 ghost use Rattle.report.specs.Printing.{sheet_storeys};
-ghost use Rattle.report.specs.Sheet.{storey_lines, sheet, report_answer, buffer_after};
+ghost use Rattle.report.specs.Sheet.{storey_lines, sheet, report_answer, returned_report, report_returned, buffer_after};
 
 use crate::printed::{StoreyCase, put_building};
 use crate::{
@@ -74,6 +74,7 @@ fn sheet_size(good: &GoodSurvey) -> usize
 // The report call: an accepted survey's sheet, from the front of the lent bytes; gives its length.
 pub fn write_report(survey: &Survey, out: &mut [u8]) -> Result<usize, Refusal>
     ensures answer { numbered result ≡ report_answer (records_of survey.now) (length out.old) }
+    ensures returned { returned_report (numbered result) ≡ report_returned (records_of survey.now) (length out.old) }
     ensures out_after { out.new ≡ buffer_after (records_of survey.now) out.old }
 {
     let good = GoodSurvey::try_from(*survey)?;

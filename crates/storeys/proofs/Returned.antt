@@ -8,6 +8,9 @@ use lib.ListN.{get_or, drop}
 use Rattle.std.specs.Prelude.{Result, Ok, Err, Option, Some, None}
 use Rattle.std.specs.Coded.{le_prop}
 use Rattle.std.proofs.Common.{arith, ◌<◌, zero, suc}
+use Rattle.records.specs.Refusals.{numbered}
+use Rattle.records.specs.declared.refusal.Refusal.{Refusal}
+use Rattle.records.proofs.Refusals.{numbered-is}
 use Rattle.records.specs.declared.{by_case.ByForm.ByForm, by_case.ByForm.TheVariants.One, by_case.ByForm.TheVariants.Four}
 use Rattle.members.specs.Finding.{Returned}
 use Rattle.members.proofs.Returned.{flag-told}
@@ -73,6 +76,10 @@ storey-told (Err n) = refl
 pub storey-answer-is : (a b : Result StoreyJudgment ℕ) → returned_storey a ≡ returned_storey b → a ≡ b
 storey-answer-is a b e = sym (storey-told a) ∙ ap (λ (r : Returned). storey-by r.refusal r.values (drop 12 r.values)) e ∙ storey-told b
 
+-- so of what the call itself gives, which has the refusal
+pub storey-outcome-is : (a b : Result StoreyJudgment Refusal) → returned_storey (numbered a) ≡ returned_storey (numbered b) → a ≡ b
+storey-outcome-is a b e = numbered-is a b (storey-answer-is (numbered a) (numbered b) e)
+
 -- by the numbers of the storey named
 abbrev named-of : ℕ → ℕ → Option RiskyStorey
 named-of zero c = None
@@ -110,3 +117,6 @@ building-answer-told (Err n) = refl
 
 pub building-answer-is : (a b : Result BuildingFinding ℕ) → returned_building a ≡ returned_building b → a ≡ b
 building-answer-is a b e = sym (building-answer-told a) ∙ ap (λ (r : Returned). building-by r.refusal r.values) e ∙ building-answer-told b
+
+pub building-outcome-is : (a b : Result BuildingFinding Refusal) → returned_building (numbered a) ≡ returned_building (numbered b) → a ≡ b
+building-outcome-is a b e = numbered-is a b (building-answer-is (numbered a) (numbered b) e)

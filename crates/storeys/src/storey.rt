@@ -1,7 +1,7 @@
 // The call on a storey, over a lent row of members.
 ghost use Rattle.std.specs.Prelude.{◌≡◌};
 ghost use Rattle.records.specs.Refusals.{numbered};
-ghost use Rattle.storeys.specs.Storey.{published_rules, storey_answer_by};
+ghost use Rattle.storeys.specs.Storey.{published_rules, storey_answer_by, returned_storey, storey_returned};
 ghost use Rattle.storeys.specs.Tally.{walls_suffice_of};
 
 use crate::StoreyJudgment;
@@ -33,7 +33,8 @@ pub fn judge_storey(
     s: &Storey,
     rows: &[Member],
 ) -> Result<StoreyJudgment, Refusal>
-    ensures { numbered result ≡ storey_answer_by published_rules k form s.now rows.now }
+    ensures answer { numbered result ≡ storey_answer_by published_rules k form s.now rows.now }
+    ensures returned { returned_storey (numbered result) ≡ storey_returned k form s.now rows.now }
 {
     if s.count != rows.len() as u64 {
         return Err(Refusal::Structure);

@@ -10,6 +10,7 @@ ghost use Rattle.validity.specs.Cases.{case_good, case_alone};
 ghost use Rattle.records.specs.Records.{case_count, case_values, case_fits, is_blank, line_in_range, storey_kind, storey_values, shears_fit, sides_fault, header_fault, storey_fault, member_case_fault, member_fault};
 
 use ranges::line_in_ranges;
+use records::by_form_number::form_for;
 use records::form::Form;
 use records::refusal::Refusal;
 use records::{CASES, Header, Kind, LoadCase, Member, MemberCase, Storey};
@@ -54,6 +55,14 @@ pub fn check_storey(form: Form, s: &Storey) -> Result<(), Refusal>
         return Err(Refusal::OutOfRange);
     }
     Ok(())
+}
+
+// The same by the number of a form; one that is that of no form is taken as the old form.
+#[tactic(auto, using(records::proofs::OtherForms::storey_fault_for))]
+pub fn storey_fault(form: u64, s: &Storey) -> Result<(), Refusal>
+    ensures { fault_of result ≡ storey_fault form s.now }
+{
+    check_storey(form_for(form), s)
 }
 
 // 4, short side above long side.
@@ -115,4 +124,12 @@ pub fn check_member(form: Form, m: &Member) -> Result<(), Refusal>
         return Err(Refusal::OutOfRange);
     }
     check_sides(m.short, m.long)
+}
+
+// The same by the number of a form; one that is that of no form is taken as the old form.
+#[tactic(auto, using(records::proofs::OtherForms::member_fault_for))]
+pub fn member_fault(form: u64, m: &Member) -> Result<(), Refusal>
+    ensures { fault_of result ≡ member_fault form m.now }
+{
+    check_member(form_for(form), m)
 }

@@ -4,7 +4,7 @@ ghost use Rattle.records.specs.Forms.{form_number};
 ghost use Rattle.records.specs.Refusals.{numbered};
 ghost use Rattle.checks.specs.RowChecks.{records_of};
 ghost use Rattle.writing.specs.Sizes.{file_size};
-ghost use Rattle.writing.specs.Writing.{file_answer, file_after_call};
+ghost use Rattle.writing.specs.Writing.{file_answer, returned_file, file_returned, file_after_call};
 
 use crate::lines::put_survey;
 use checks::Survey;
@@ -25,6 +25,7 @@ fn file_size(form: Form, storeys: usize, members: usize) -> usize
 // The writing call: the file of good records, from the front of the lent bytes, and its length.
 pub fn write_file(survey: &Survey, out: &mut [u8]) -> Result<usize, Refusal>
     ensures answer { numbered result ≡ file_answer (records_of survey.now) (length out.old) }
+    ensures returned { returned_file (numbered result) ≡ file_returned (records_of survey.now) (length out.old) }
     ensures out_after { out.new ≡ file_after_call (records_of survey.now) out.old }
 {
     let form = survey.check()?;
